@@ -1,0 +1,5 @@
+pub mod Existing
+pub mod FirstLines
+pub mod Following
+pub mod Outsides
+pub mod Spelling

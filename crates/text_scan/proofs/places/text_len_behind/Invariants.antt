@@ -1,0 +1,10 @@
+use Rattle.std.proofs.Common.{◌≡◌, ◌+◌, length}
+use Rattle.text_scan.specs.Places.{text_len}
+use Rattle.text_scan.specs.declared.places.Place.TheVariants.{InText}
+use Rattle.text_scan.proofs.places.text_len_behind.Given as goal
+
+abbrev pub invariant-loop-byte : goal.invariant-loop-byte
+invariant-loop-byte l = text_len InText l.bytes + length l.rest ≡ length l.bytes + text_len l.place l.rest
+
+abbrev pub decreases-loop-byte : goal.decreases-loop-byte
+decreases-loop-byte l = length l.rest
