@@ -1,0 +1,4 @@
+pub mod PairLaws
+pub mod PathLaws
+pub mod Times
+pub mod OneOrder
