@@ -1,0 +1,4 @@
+pub mod Clauses
+pub mod Arena
+pub mod Propagation
+pub mod Truth
