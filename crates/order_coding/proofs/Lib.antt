@@ -1,0 +1,15 @@
+pub mod Lists
+pub mod Ranks
+pub mod Numbering
+pub mod Places
+pub mod Meaning
+pub mod CrashValues
+pub mod Transactions
+pub mod CrashLaw
+pub mod Decoding
+pub mod Grows
+pub mod Kept
+pub mod Stages
+pub mod Counts
+pub mod DecodedIs
+pub mod MarkTraces

@@ -1,0 +1,6 @@
+pub mod Tournament
+pub mod Variables
+pub mod Families
+pub mod Decoded
+pub mod Growth
+pub mod Marks

@@ -1,0 +1,43 @@
+//! Laws of the coding, for every number of events. Each function does nothing: its contract is the law.
+
+ghost use Rattle.std.specs.Prelude.{◌≡◌, ◌↔◌, ℕ, ◌<◌, Bool, true, List, length};
+ghost use Rattle.std.specs.List.{Contains};
+ghost use Rattle.clause_store.specs.Truth.{MakesAllTrue};
+ghost use Rattle.fer_events.specs.declared.event.Event.{Event};
+ghost use Rattle.fer_events.specs.declared.event.Crash.{Crash};
+ghost use Rattle.fer_events.specs.Orders.{before_cut, IsCrash, StandsBefore};
+ghost use Rattle.order_coding.specs.Tournament.{IsTournament, HasNoCycle, rank};
+ghost use Rattle.order_coding.specs.Variables.{IsNumber};
+ghost use Rattle.order_coding.specs.Families.{AreForward, order_clauses, order_formula};
+ghost use Rattle.order_coding.specs.Decoded.{is_in, is_before, IsDecoded, HasValues};
+
+/// A choice of one direction for each two numbers, without cycles of three, is a linear order, and the number of
+/// predecessors is the place in it.
+pub fn tournaments_without_cycles_are_orders()
+    ensures transitive { (xs : List ℕ) (before : ℕ → ℕ → Bool) → IsTournament xs before → HasNoCycle xs before
+        → (x y z : ℕ) → Contains xs x → Contains xs y → Contains xs z
+        → before x y ≡ true → before y z ≡ true → before x z ≡ true }
+    ensures place { (xs : List ℕ) (before : ℕ → ℕ → Bool) → IsTournament xs before → HasNoCycle xs before
+        → (x y : ℕ) → Contains xs x → Contains xs y
+        → (before x y ≡ true) ↔ (rank xs before x < rank xs before y) }
+    ensures one_place { (xs : List ℕ) (before : ℕ → ℕ → Bool) → IsTournament xs before → HasNoCycle xs before
+        → (x y : ℕ) → Contains xs x → Contains xs y → rank xs before x ≡ rank xs before y → x ≡ y }
+    ensures within { (xs : List ℕ) (before : ℕ → ℕ → Bool) → IsTournament xs before
+        → (x : ℕ) → Contains xs x → rank xs before x < length xs }
+{}
+
+/// Every crash has values that describe it and make all clauses true.
+pub fn crashes_have_values()
+    ensures { (events : List Event) (kept : List (ℕ × ℕ)) (crash : Crash) → AreForward (length events) kept
+        → IsCrash events kept crash → HasValues (length events) crash (order_formula events kept) }
+{}
+
+/// Values that make the clauses true describe the crash that is decoded of them, as far as the cut.
+pub fn decoded_crashes_are_described()
+    ensures inside { (events : List Event) (values : List Bool) (crash : Crash) → IsDecoded (length events) values crash
+        → (e : ℕ) → IsNumber (length events) e → (is_in values e ≡ true) ↔ Contains (before_cut crash) e }
+    ensures before { (events : List Event) (kept : List (ℕ × ℕ)) (values : List Bool) (crash : Crash)
+        → MakesAllTrue values (order_clauses events kept) → IsDecoded (length events) values crash
+        → (a b : ℕ) → Contains (before_cut crash) a → Contains (before_cut crash) b
+        → (is_before (length events) values a b ≡ true) ↔ StandsBefore (before_cut crash) a b }
+{}
