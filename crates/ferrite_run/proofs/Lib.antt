@@ -1,0 +1,16 @@
+pub mod Three
+pub mod Cuts
+pub mod Decode
+pub mod Joining
+pub mod FirstUse
+pub mod Tracing
+pub mod Fronts
+pub mod Taking
+pub mod OneReading
+pub mod Along
+pub mod Answering
+pub mod SmallTexts
+pub mod Verdicts
+pub mod Growth
+pub mod AnswerLaws
+pub mod OneAnswer
