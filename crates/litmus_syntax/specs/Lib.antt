@@ -1,1 +1,10 @@
+pub mod CallKinds
+pub mod CallText
+pub mod Counts
+pub mod Forms
+pub mod Limits
+pub mod LitmusText
+pub mod PredText
 pub mod Test
+pub mod Sites
+pub mod Texts

@@ -1,11 +1,13 @@
 ghost use Rattle.std.specs.Prelude.{◌≡◌};
+ghost use Rattle.litmus_syntax.specs.Limits.{IsWithinLimits};
 
 use crate::call::{Step, Text};
 use crate::pred::Pred;
 use fer_list::Seq;
 use std::marker::Model;
 
-/// A litmus test: what is set up, the body in which the crash may come, and the question.
+/// A litmus test: what is set up, the body in which the crash may come, and the question. Each test keeps to the forms
+/// and limits of a litmus file, so nothing above asks for them again.
 #[derive(Debug, Drop)]
 pub struct Litmus {
     name: Text,
@@ -19,6 +21,7 @@ pub struct Litmus {
 
 impl Model for Litmus {
     ghost use Rattle.litmus_syntax.specs.Test.{Test};
+    ghost use Rattle.litmus_syntax.specs.Limits.{IsWithinLimits};
     ghost use Rattle.litmus_syntax.specs.contracts.pred.Pred as whole;
     ghost use Rattle.std.specs.Coded.{codes};
 
@@ -27,6 +30,8 @@ impl Model for Litmus {
     ghost coded = { Prim.hlevel (codes, whole.the_row.coded) };
 
     ghost view = { λ l. record { name = l.name; block = l.block; setup = l.setup; body = l.body; want = l.want; pred = l.pred; pred_line = l.pred_line } };
+
+    ghost invariant = { λ l. IsWithinLimits (record { name = l.name; block = l.block; setup = l.setup; body = l.body; want = l.want; pred = l.pred; pred_line = l.pred_line }) };
 }
 
 impl Litmus {
@@ -40,6 +45,7 @@ impl Litmus {
         pred: Pred,
         pred_line: u32,
     ) -> Litmus
+        requires { IsWithinLimits (record { name = name; block = block; setup = setup; body = body; want = want; pred = pred; pred_line = pred_line }) }
         ensures { result ≡ record { name = name; block = block; setup = setup; body = body; want = want; pred = pred; pred_line = pred_line } }
     {
         Litmus {
@@ -74,9 +80,10 @@ impl Litmus {
         self.setup.as_slice()
     }
 
-    /// The calls in which the crash may come.
+    /// The calls in which the crash may come. What the type holds is known of the test.
     pub fn body(&self) -> &[Step]
-        ensures { result.now ≡ self.now.body }
+        ensures body { result.now ≡ self.now.body }
+        ensures limits { IsWithinLimits self.now }
     {
         self.body.as_slice()
     }
