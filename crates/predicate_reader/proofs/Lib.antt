@@ -1,0 +1,9 @@
+pub mod AtomFronts
+pub mod AtomWords
+pub mod Depths
+pub mod Folds
+pub mod FrontLaws
+pub mod Kept
+pub mod Suffixes
+pub mod Reading
+pub mod Shortness

@@ -1,0 +1,34 @@
+ghost use Rattle.std.specs.Prelude.{◌≡◌, ℕ, ◌^◌, ◌<◌, ◌≤◌, MatchBool};
+ghost use Rattle.lexeme_reader.specs.declared.reading.Lexeme.TheVariants.{Number};
+ghost use Rattle.predicate_reader.specs.Predicates.{AreInRange};
+
+use lexeme_reader::Lexeme;
+
+/// The largest number that is in range.
+const MOST_NUMBER: u64 = (1 << 32) - 1;
+
+/// Whether the token is a number that is out of range.
+fn is_wide(lexeme: &Lexeme) -> bool
+    ensures { MatchBool result
+        ((n : ℕ) × (lexeme.now ≡ Number n) × (2 ^ 32 ≤ n))
+        ((n : ℕ) → lexeme.now ≡ Number n → n < 2 ^ 32) }
+{
+    match lexeme {
+        Lexeme::Number(number) => *number > MOST_NUMBER,
+        _ => false,
+    }
+}
+
+/// Whether each number is in range, which is 2^32 - 1 at most.
+pub fn are_in_range(lexemes: &[Lexeme]) -> bool
+    ensures { MatchBool result (AreInRange lexemes.now) (AreInRange lexemes.now → ⊥) }
+{
+    let mut rest = lexemes;
+    while let Some((first, behind)) = rest.split_first() {
+        if is_wide(first) {
+            return false;
+        }
+        rest = behind;
+    }
+    true
+}
