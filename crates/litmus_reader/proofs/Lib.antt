@@ -1,0 +1,15 @@
+pub mod Calling
+pub mod Deciding
+pub mod Drafting
+pub mod Exact
+pub mod Faulting
+pub mod Finishing
+pub mod Fronts
+pub mod Leading
+pub mod OneLine
+pub mod OneReading
+pub mod OneRefusal
+pub mod OneTest
+pub mod SoundTest
+pub mod Standing
+pub mod Stating

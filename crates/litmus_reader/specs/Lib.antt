@@ -1,0 +1,14 @@
+pub mod Calls
+pub mod Drafts
+pub mod Faults
+pub mod FirstFaults
+pub mod Keywords
+pub mod Kinds
+pub mod LitmusText
+pub mod Places
+pub mod Read
+pub mod Stages
+pub mod StatedLines
+pub mod Statements
+pub mod TakenLines
+pub mod WholeFiles

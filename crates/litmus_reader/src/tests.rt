@@ -1,0 +1,142 @@
+use super::*;
+use litmus_syntax::print;
+use std::test::Fail;
+
+/// The canonical text of what is read, or the line and the number of the kind of the refusal.
+fn answer(rt: &HostRuntime, bytes: &[u8]) -> Result<String, Fail> {
+    let alloc = rt.alloc();
+    match read(alloc, bytes) {
+        Ok(litmus) => Ok(String::from_utf8(print(alloc, &litmus)?)?),
+        Err(LitmusFault::Refused { line, kind }) => Ok(format!(in alloc;
+            "{line} {}",
+            kind.number()
+        )?),
+        Err(LitmusFault::OutOfMemory) => Ok(format!(in alloc; "out of memory")?),
+    }
+}
+
+const EACH_CALL: &str =
+    "litmus all\nblock 512\nsetup:\n  mkdir /d\n  create /d/f\n  write /d/f 0 \"ab\"\nbody:\n  append /d/f \"c\\n\"\n  truncate /d/f 2\n  link /d/f /g\n  unlink /g\n  rename /d/f /h\n  attr /h key 7\n  fsync /h\n  fsyncdir /\n  sync\n  mark w\nexists: exists(/h) and seen(w)\n";
+
+#[test]
+fn texts_are_read_or_refused(rt: HostRuntime) -> Result<(), Fail> {
+    let rows = [
+        (EACH_CALL, EACH_CALL),
+        (
+            "\tlitmus\ta # c\r\n\nbody:\nappend /f \"#\\x41\\x22\"# end\nalways: not(true or false)",
+            "litmus a\nblock 4096\nsetup:\nbody:\n  append /f \"#A\\\"\"\nalways: not (true or false)\n",
+        ),
+        ("", "1 8"),
+        ("litmus x\n\nbody:\n", "4 8"),
+        ("litmus x\rbody:\n", "1 1"),
+        ("litmus x\nbody:\x01 !\n", "2 1"),
+        ("litmus x\nbody: !\n", "2 2"),
+        ("mkdir\n", "1 3"),
+        ("litmus x\nbody:\nwrite /f 99999999999\n", "3 3"),
+        ("block 0\n", "1 4"),
+        ("litmus x\nmark a\n", "2 4"),
+        ("litmus x\nbody:\nexists: true\nexists: (\n", "4 4"),
+        ("litmus x\nblock 0\n!\n", "2 5"),
+        ("litmus x\nbody:\nexists: 4294967296\n", "3 5"),
+        ("litmus x\nbody:\nmkdir /d\n", "3 6"),
+        ("litmus x\nsetup:\nsync\n", "3 6"),
+        ("litmus x\nbody:\nexists: true and\n", "3 7"),
+        ("litmus x\nbody:\nexists: bytes(/f, 65536) = \"a\"\n", "3 7"),
+    ];
+    for (bytes, want) in rows {
+        let got = answer(&rt, bytes.as_bytes())?;
+        assert_eq!(rt; got.as_str(), want, "at {bytes}");
+    }
+    Ok(())
+}
+
+/// Whether a text is read that has `unit` so many times between `head` and `mid`, and `end` as often behind that; else
+/// where and why it is refused.
+fn answer_at(rt: &HostRuntime, count: usize, parts: [&str; 5]) -> Result<String, Fail> {
+    let alloc = rt.alloc();
+    let [head, unit, mid, end, tail] = parts;
+    let mut bytes = Vec::new(alloc);
+    bytes.extend_from_slice(head.as_bytes())?;
+    for _ in 0..count {
+        bytes.extend_from_slice(unit.as_bytes())?;
+    }
+    bytes.extend_from_slice(mid.as_bytes())?;
+    for _ in 0..count {
+        bytes.extend_from_slice(end.as_bytes())?;
+    }
+    bytes.extend_from_slice(tail.as_bytes())?;
+    match read(alloc, bytes.as_slice()) {
+        Ok(_) => Ok(format!(in alloc; "read")?),
+        Err(_) => answer(rt, bytes.as_slice()),
+    }
+}
+
+#[test]
+fn limits_are_those_of_the_grammar(rt: HostRuntime) -> Result<(), Fail> {
+    let setup = "litmus a\nsetup:\n";
+    let body = "litmus a\nbody:\n";
+    let asked = "litmus a\nbody:\nexists: ";
+    let file = "litmus a\nbody:\nexists: true\n#";
+    let content = "litmus a\nbody:\nexists: content(/f) = \"";
+    let rows = [
+        (
+            256,
+            [setup, "create /f\n", "body:\nexists: true\n", "", ""],
+            "read",
+        ),
+        (
+            257,
+            [setup, "create /f\n", "body:\nexists: true\n", "", ""],
+            "259 9",
+        ),
+        (256, [setup, "create /f\n", "sync\n", "", ""], "259 6"),
+        (
+            128,
+            [body, "sync\nmark a\n", "exists: true\n", "", ""],
+            "read",
+        ),
+        (
+            129,
+            [body, "sync\nmark a\n", "exists: true\n", "", ""],
+            "260 9",
+        ),
+        (
+            0,
+            ["litmus a\nblock 1\n", "", "body:\nexists: true\n", "", ""],
+            "read",
+        ),
+        (
+            0,
+            [
+                "litmus a\nblock 65536\n",
+                "",
+                "body:\nexists: true\n",
+                "",
+                "",
+            ],
+            "read",
+        ),
+        (0, ["litmus a\nblock 65537\n", "", "", "", ""], "2 5"),
+        (
+            0,
+            [body, "", "truncate /f 4294967295\nexists: true\n", "", ""],
+            "read",
+        ),
+        (0, [body, "", "truncate /f 4294967296\n", "", ""], "3 5"),
+        (512, [content, "\\x41", "\"\n", "", ""], "read"),
+        (513, [content, "a", "\"\n", "", ""], "3 9"),
+        (255, [asked, "true or ", "true\n", "", ""], "read"),
+        (256, [asked, "true or ", "true\n", "", ""], "3 9"),
+        (256, [asked, "not ", "true\n", "", ""], "read"),
+        (257, [asked, "not ", "\n", "", ""], "3 9"),
+        (64, [asked, "(", "true", ")", "\n"], "read"),
+        (65, [asked, "(", "true", ")", "\n"], "3 9"),
+        (65507, [file, "x", "", "", ""], "read"),
+        (65508, [file, "x", "", "", ""], "0 9"),
+    ];
+    for (count, parts, want) in rows {
+        let got = answer_at(&rt, count, parts)?;
+        assert_eq!(rt; got.as_str(), want, "at {count} {}", parts[1]);
+    }
+    Ok(())
+}
