@@ -1,0 +1,115 @@
+-- The canonical text of a test, line by line.
+use Rattle.std.proofs.Common.{◌≡◌, ℕ, ◌&&◌, List, [], ◌∷◌, ◌++◌, map, IsTrue, All, refl, ◌∙◌, ap, append_assoc}
+use Rattle.std.specs.Prelude.{⊤, codes, decimal}
+use Rattle.std.specs.List.{flat_map}
+use Rattle.std.proofs.lemmas.List.Elements.{All-head, All-tail}
+use Rattle.text_scan.specs.Lines.{lines_of}
+use Rattle.text_scan.specs.Forms.{is_word}
+use Rattle.litmus_syntax.specs.declared.call.Call.{Call}
+use Rattle.litmus_syntax.specs.declared.call.Call.TheVariants as call
+use Rattle.litmus_syntax.specs.declared.call.Step.{Step}
+use Rattle.litmus_syntax.specs.Test.{Test}
+use Rattle.litmus_syntax.specs.CallText.{call_text}
+use Rattle.litmus_syntax.specs.Forms.{is_formed_call, is_formed_path, is_number, is_byte_text}
+use Rattle.litmus_syntax.specs.Texts.{path_text, quoted}
+use Rattle.litmus_syntax.specs.LitmusText.{step_line, question_word, question_line, litmus_text}
+use Rattle.litmus_syntax.specs.PredText.{pred_text}
+use Rattle.litmus_round_trip.proofs.Pieces.{left, right}
+use Rattle.litmus_round_trip.proofs.Calls.{in_range}
+use Rattle.litmus_round_trip.proofs.Lines.{Visible, line_cut, seen_both, seen_word, seen_path, seen_text, seen_number}
+use Rattle.litmus_round_trip.proofs.Atoms.{six}
+
+-- lines, each with its line feed
+abbrev pub with_feeds : List (List ℕ) → List ℕ
+with_feeds [] = []
+with_feeds (line ∷ lines) = line ++ 10 ∷ with_feeds lines
+
+abbrev pub AreVisible : List (List ℕ) → Type 0
+AreVisible [] = ⊤
+AreVisible (line ∷ lines) = Visible line × AreVisible lines
+
+pub lines_cut : (lines : List (List ℕ)) → AreVisible lines → lines_of (with_feeds lines) ≡ lines
+lines_cut [] seen = refl
+lines_cut (line ∷ lines) seen = line_cut line (with_feeds lines) seen.0 ∙ ap (λ (ls : List (List ℕ)). line ∷ ls) (lines_cut lines seen.1)
+
+-- the lines of a test
+abbrev pub step_text : Step → List ℕ
+step_text step = codes "  " ++ call_text step.call
+
+abbrev pub question_text : Test → List ℕ
+question_text l = question_word l.want ++ codes ": " ++ pred_text l.pred
+
+abbrev pub file_lines : Test → List (List ℕ)
+file_lines l =
+    (codes "litmus " ++ l.name) ∷ (codes "block " ++ decimal l.block) ∷ codes "setup:"
+    ∷ (map step_text l.setup ++ (codes "body:" ∷ (map step_text l.body ++ question_text l ∷ [])))
+
+steps_cut : (steps : List Step) (lines : List (List ℕ)) → flat_map step_line steps ++ with_feeds lines ≡ with_feeds (map step_text steps ++ lines)
+steps_cut [] lines = refl
+steps_cut (step ∷ steps) lines =
+    append_assoc (step_line step) (flat_map step_line steps) (with_feeds lines)
+    ∙ ap (λ (rest : List ℕ). step_line step ++ rest) (steps_cut steps lines)
+    ∙ append_assoc (step_text step) (codes "\n") (with_feeds (map step_text steps ++ lines))
+
+ten : (a b c d e f g h i j r : List ℕ) → (a ++ b ++ c ++ d ++ e ++ f ++ g ++ h ++ i ++ j) ++ r ≡ a ++ (b ++ (c ++ (d ++ (e ++ (f ++ (g ++ (h ++ (i ++ (j ++ r)))))))))
+ten a b c d e f g h i j r =
+    append_assoc (a ++ b ++ c ++ d ++ e ++ f ++ g ++ h ++ i) j r
+    ∙ append_assoc (a ++ b ++ c ++ d ++ e ++ f ++ g ++ h) i (j ++ r)
+    ∙ append_assoc (a ++ b ++ c ++ d ++ e ++ f ++ g) h (i ++ (j ++ r))
+    ∙ append_assoc (a ++ b ++ c ++ d ++ e ++ f) g (h ++ (i ++ (j ++ r)))
+    ∙ six a b c d e f (g ++ (h ++ (i ++ (j ++ r))))
+
+-- the canonical text is these lines
+pub text_lines : (l : Test) → litmus_text l ≡ with_feeds (file_lines l)
+text_lines l =
+    let last : List (List ℕ) = question_text l ∷ [] in
+    let body : List (List ℕ) = codes "body:" ∷ (map step_text l.body ++ last) in
+    let asked : question_line l ≡ with_feeds last = refl in
+    let after : flat_map step_line l.body ++ question_line l ≡ with_feeds (map step_text l.body ++ last) =
+    ap (λ (q : List ℕ). flat_map step_line l.body ++ q) asked ∙ steps_cut l.body last in
+    let before : flat_map step_line l.setup ++ (codes "body:\n" ++ (flat_map step_line l.body ++ question_line l)) ≡ with_feeds (map step_text l.setup ++ body) =
+    ap (λ (rest : List ℕ). flat_map step_line l.setup ++ (codes "body:\n" ++ rest)) after ∙ steps_cut l.setup body in
+    ten (codes "litmus ") l.name (codes "\n") (codes "block ") (decimal l.block) (codes "\n") (codes "setup:\n") (flat_map step_line l.setup) (codes "body:\n") (flat_map step_line l.body) (question_line l)
+    ∙ ap (λ (rest : List ℕ). codes "litmus " ++ (l.name ++ (codes "\n" ++ (codes "block " ++ (decimal l.block ++ (codes "\n" ++ (codes "setup:\n" ++ rest))))))) before
+
+-- a call has no control characters
+pub seen_call : (c : Call) → IsTrue (is_formed_call c) → Visible (call_text c)
+seen_call (call.Mkdir path) form = seen_both (codes "mkdir ") (path_text path) refl (seen_path path form)
+seen_call (call.Create path) form = seen_both (codes "create ") (path_text path) refl (seen_path path form)
+seen_call (call.Write path at text) form =
+    let front = left (is_formed_path path && is_number at) (is_byte_text text) form in
+    let start = seen_both (codes "write ") (path_text path) refl (seen_path path (left (is_formed_path path) (is_number at) front)) in
+    seen_both (codes "write " ++ path_text path ++ 32 ∷ decimal at) (32 ∷ quoted text)
+    (seen_both (codes "write " ++ path_text path) (32 ∷ decimal at) start (seen_number at (in_range at (right (is_formed_path path) (is_number at) front)))) (seen_text text)
+seen_call (call.Append path text) form =
+    seen_both (codes "append " ++ path_text path) (32 ∷ quoted text) (seen_both (codes "append ") (path_text path) refl (seen_path path (left (is_formed_path path) (is_byte_text text) form))) (seen_text text)
+seen_call (call.Truncate path size) form =
+    seen_both (codes "truncate " ++ path_text path) (32 ∷ decimal size) (seen_both (codes "truncate ") (path_text path) refl (seen_path path (left (is_formed_path path) (is_number size) form)))
+    (seen_number size (in_range size (right (is_formed_path path) (is_number size) form)))
+seen_call (call.Link from to) form =
+    seen_both (codes "link " ++ path_text from) (32 ∷ path_text to) (seen_both (codes "link ") (path_text from) refl (seen_path from (left (is_formed_path from) (is_formed_path to) form)))
+    (seen_path to (right (is_formed_path from) (is_formed_path to) form))
+seen_call (call.Unlink path) form = seen_both (codes "unlink ") (path_text path) refl (seen_path path form)
+seen_call (call.Rename from to) form =
+    seen_both (codes "rename " ++ path_text from) (32 ∷ path_text to) (seen_both (codes "rename ") (path_text from) refl (seen_path from (left (is_formed_path from) (is_formed_path to) form)))
+    (seen_path to (right (is_formed_path from) (is_formed_path to) form))
+seen_call (call.Attr path key value) form =
+    let front = left (is_formed_path path && is_word key) (is_number value) form in
+    let start = seen_both (codes "attr ") (path_text path) refl (seen_path path (left (is_formed_path path) (is_word key) front)) in
+    seen_both (codes "attr " ++ path_text path ++ 32 ∷ key) (32 ∷ decimal value)
+    (seen_both (codes "attr " ++ path_text path) (32 ∷ key) start (seen_word key (right (is_formed_path path) (is_word key) front)))
+    (seen_number value (in_range value (right (is_formed_path path && is_word key) (is_number value) form)))
+seen_call (call.Fsync path) form = seen_both (codes "fsync ") (path_text path) refl (seen_path path form)
+seen_call (call.FsyncDir path) form = seen_both (codes "fsyncdir ") (path_text path) refl (seen_path path form)
+seen_call call.Sync form = refl
+seen_call (call.Mark word) form = seen_both (codes "mark ") word refl (seen_word word form)
+
+abbrev pub AreFormed : List Step → Type 0
+AreFormed steps = All (λ step. IsTrue (is_formed_call step.call)) steps
+
+pub seen_steps : (steps : List Step) (lines : List (List ℕ)) → AreFormed steps → AreVisible lines → AreVisible (map step_text steps ++ lines)
+seen_steps [] lines formed seen = seen
+seen_steps (step ∷ steps) lines formed seen = (
+  seen_call step.call (All-head (λ (s : Step). IsTrue (is_formed_call s.call)) step steps formed),
+  seen_steps steps lines (All-tail (λ (s : Step). IsTrue (is_formed_call s.call)) step steps formed) seen,
+)

@@ -1,0 +1,13 @@
+pub mod Atoms
+pub mod Calls
+pub mod Files
+pub mod Induction
+pub mod Lines
+pub mod Nesting
+pub mod Paths
+pub mod Pieces
+pub mod Preds
+pub mod Reading
+pub mod Statements
+pub mod Texts
+pub mod Written
