@@ -118,32 +118,10 @@ impl Events {
         }
     }
 
-    /// The same names and the same start, with these events.
-    pub fn with_events(self, events: Seq<Event>) -> Events
-        requires { IsTrace (record self { events = events }) }
-        ensures { result ≡ record self { events = events } }
-    {
-        let Events {
-            start,
-            events: _,
-            dirs,
-            slots,
-            keys,
-            words,
-        } = self;
-        Events {
-            start,
-            events,
-            dirs,
-            slots,
-            keys,
-            words,
-        }
-    }
-
-    /// The state after the setup.
+    /// The state after the setup. What the type holds is known of it.
     pub fn start(&self) -> &Start
-        ensures { result.now ≡ self.now.start }
+        ensures start { result.now ≡ self.now.start }
+        ensures rules { IsTrace self.now }
     {
         &self.start
     }
