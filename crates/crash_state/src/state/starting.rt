@@ -16,8 +16,6 @@ impl State {
         ensures start { self.new ≡ start_state events.now }
         ensures fits { Fits self.new events.now }
     {
-        // The rules of a trace are known from its events: contents and tables that are small enough, above all.
-        let _ = events.events();
         let start = events.start();
         self.slots.copy_from_slice(start.slots());
         set_sizes(self.sizes.as_mut_slice(), start.contents());
