@@ -1,0 +1,15 @@
+pub mod CallFits
+pub mod Closing
+pub mod Counting
+pub mod Fitting
+pub mod Keeping
+pub mod NameFits
+pub mod NewEvents
+pub mod Outcomes
+pub mod PieceLaws
+pub mod Runs
+pub mod Splitting
+pub mod Taken
+pub mod Tracing
+pub mod Walking
+pub mod Whole

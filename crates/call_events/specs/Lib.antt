@@ -1,0 +1,9 @@
+pub mod Found
+pub mod Small
+pub mod Refusals
+pub mod Changes
+pub mod CallEvents
+pub mod Running
+pub mod Asking
+pub mod Resolved
+pub mod Runs
