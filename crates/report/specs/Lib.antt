@@ -1,0 +1,3 @@
+pub mod EventTable
+pub mod Outcomes
+pub mod Rows

@@ -1,0 +1,43 @@
+use fer_events::{Crash, Events, Pairs};
+use litmus_syntax::Litmus;
+
+/// The part that a file plays in a command.
+#[derive(Clone, Copy, Debug)]
+pub enum Role {
+    LitmusFile,
+}
+
+/// What is answered.
+#[derive(Clone, Copy, Debug)]
+pub enum Outcome<'a> {
+    /// This crash answers the question.
+    Allowed {
+        crash: &'a Crash,
+    },
+    /// No crash answers the question.
+    Forbidden,
+    /// The events of a test, and the pairs of them that have to reach the disk in order.
+    EventTable {
+        events: &'a Events,
+        pairs: &'a Pairs,
+    },
+    /// A litmus test in its canonical text.
+    Shown {
+        litmus: &'a Litmus,
+    },
+    /// The words are no command line.
+    Usage,
+    /// The litmus file is refused at a line, 0 standing for the whole file, with the number of the fault's kind.
+    LitmusRefused {
+        line: u32,
+        kind: u32,
+    },
+    /// The file can't be read.
+    ReadFault {
+        role: Role,
+    },
+    /// The file isn't there.
+    Missing {
+        role: Role,
+    },
+}
