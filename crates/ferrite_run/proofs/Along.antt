@@ -1,6 +1,6 @@
 -- States along program order.
-use Rattle.std.proofs.Common.{◌≡◌, ◌≢◌, Bool, true, false, true≢false, ℕ, ◌+◌, ◌-◌, [], ◌∷◌, fold, slice_get, sym, ◌∙◌, ap, arith}
-use Rattle.std.specs.Bool.{beq}
+use Rattle.std.proofs.Common.{◌≡◌, Bool, true, false, true≢false, ℕ, ◌+◌, ◌-◌, [], ◌∷◌, fold, slice_get, refl, sym, ◌∙◌, ap, arith}
+use Rattle.std.specs.Bool.{beq, MatchBool}
 use Rattle.std.proofs.lemmas.List.Sums.{fold-append}
 use Rattle.fer_events.proofs.OneOrder.{range_split}
 use Rattle.fer_events.specs.Orders.{numbers}
@@ -16,9 +16,9 @@ state_more t cut =
     sym (ap (fold step (start_state t)) (range_split 1 cut 1) ∙ fold-append step (start_state t) (numbers cut) ((1 + cut) ∷ [])
     ∙ ap (λ (k : ℕ). after_option (state_at t cut) (slice_get t.events k)) same)
 
--- truth values that a test tells apart differ
-pub told_apart : (a b : Bool) → beq a b ≡ false → a ≢ b
-told_apart true true h same = true≢false h
-told_apart true false h same = true≢false same
-told_apart false true h same = true≢false (sym same)
-told_apart false false h same = true≢false h
+-- a test of two truth values decides what their being one decides
+pub decided : (a b : Bool) (P : Type 0) → (a ≡ b → P) → (P → a ≡ b) → MatchBool (beq a b) P (P → ⊥)
+decided true true P from back = from refl
+decided false false P from back = from refl
+decided true false P from back = λ p. true≢false (back p)
+decided false true P from back = λ p. true≢false (sym (back p))

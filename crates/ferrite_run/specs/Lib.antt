@@ -1,14 +1,7 @@
-pub mod Lines
-pub mod Terms
-pub mod LineForms
-pub mod LitmusText
-pub mod PartlyRead
 pub mod Command
-pub mod BodyEvents
-pub mod FaultKinds
-pub mod Refusals
-pub mod Texts
 pub mod Allowed
+pub mod Checking
+pub mod Listing
 pub mod Answers
-pub mod Small
+pub mod Faults
 pub mod Cut

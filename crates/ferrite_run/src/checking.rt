@@ -1,93 +1,68 @@
-ghost use Rattle.std.specs.Prelude.{◌≡◌, ℕ, List, [], None, IfOk};
-ghost use Rattle.ferrite_run.specs.Answers.{IsVerdict};
-ghost use Rattle.ferrite_run.specs.FaultKinds.{kind_number};
-ghost use Rattle.ferrite_run.specs.LitmusText.{IsLitmusText};
-ghost use Rattle.ferrite_run.specs.Refusals.{first_taken};
-ghost use Rattle.ferrite_run.specs.Small.{IsSmall};
-ghost use Rattle.ferrite_run.specs.Texts.{refusal_text};
+ghost use Rattle.std.specs.Prelude.{◌≡◌, [], IfOk};
+ghost use Rattle.fer_events.specs.Orders.{numbers};
+ghost use Rattle.call_events.specs.Resolved.{HasEvents};
+ghost use Rattle.report.specs.Outcomes.{allowed_text};
+ghost use Rattle.ferrite_run.specs.Checking.{IsChecked};
 
-use crate::fault_kind::FaultKind;
-use crate::reading::{ReadFault, read};
-use crate::refusing::{asks_known, taken_line};
-use crate::texts::refused;
-use crate::verdict::verdict;
+use crate::answer::{Answer, answered, unresolved};
+use crate::cuts::least_cut;
+use call_events::resolve;
+use fer_events::{Crash, Events};
+use fer_list::Seq;
 use litmus_syntax::Litmus;
+use report::{Outcome, text};
 use std::alloc::{AllocError, Global};
 
-/// The status of an answer.
-pub const ANSWERED: u8 = 0;
-
-/// The status where the litmus file is refused.
-pub const REFUSED: u8 = 4;
-
-/// A status, and the text that goes with it.
-#[derive(Debug, Drop)]
-pub struct Outcome {
-    pub status: u8,
-    pub text: Vec<u8>,
-}
-
-/// The refusal at this line for this kind of fault.
-pub fn refusal(alloc: Global, line: u32, kind: FaultKind) -> Result<Outcome, AllocError>
-    ensures status { IfOk result (λ o. o.status ≡ 4) }
-    ensures text { IfOk result (λ o. o.text.items ≡ refusal_text line (kind_number kind)) }
+/// The numbers of so many events, in program order.
+fn program_order(alloc: Global, count: u32) -> Result<Seq<u32>, AllocError>
+    ensures { IfOk result (λ order. order ≡ numbers count) }
 {
-    let text = refused(alloc, line, kind)?;
-    Ok(Outcome {
-        status: REFUSED,
-        text,
-    })
-}
-
-/// What is answered to a test whose calls can all be made.
-fn check_question(alloc: Global, litmus: &Litmus) -> Result<Outcome, AllocError>
-    requires small { IsSmall litmus.now }
-    requires new_names { first_taken [] litmus.now.body ≡ None }
-    ensures { IfOk result (λ o. (bytes : List ℕ) → IsLitmusText bytes litmus.now → IsVerdict bytes o.status o.text.items) }
-{
-    if asks_known(litmus) {
-        let text = verdict(alloc, litmus)?;
-        Ok(Outcome {
-            status: ANSWERED,
-            text,
-        })
-    } else {
-        let outcome = refusal(alloc, litmus.pred_line(), FaultKind::UnknownMark)?;
-        Ok(outcome)
+    let mut order = Seq::new(alloc);
+    for event in 0..count {
+        order.push(event + 1)?;
     }
+    Ok(order)
 }
 
-/// What is answered to a litmus test.
-fn check_litmus(alloc: Global, litmus: &Litmus) -> Result<Outcome, AllocError>
-    requires { IsSmall litmus.now }
-    ensures { IfOk result (λ o. (bytes : List ℕ) → IsLitmusText bytes litmus.now → IsVerdict bytes o.status o.text.items) }
+/// The text for the crash with this cut of program order.
+fn allowed_at(alloc: Global, count: u32, cut: u32) -> Result<Vec<u8>, AllocError>
+    ensures { IfOk result (λ text. text.items ≡ allowed_text (record { order = numbers count; cut = cut })) }
 {
-    match taken_line(litmus.body()) {
-        Some(line) => {
-            let outcome = refusal(alloc, line, FaultKind::NameTaken)?;
-            Ok(outcome)
-        }
+    let order = program_order(alloc, count)?;
+    let crash = Crash { order, cut };
+    let text = text(alloc, &Outcome::Allowed { crash: &crash })?;
+    Ok(text)
+}
+
+/// Whether a crash of these events answers the test's question.
+fn verdict(alloc: Global, litmus: &Litmus, events: &Events) -> Result<Vec<u8>, AllocError>
+    requires { HasEvents litmus.now [] events.now }
+    ensures { IfOk result (λ text. IsChecked litmus.now 0 text.items) }
+{
+    match least_cut(alloc, events, litmus.pred(), litmus.want())? {
         None => {
-            let outcome = check_question(alloc, litmus)?;
-            Ok(outcome)
+            let text = text(alloc, &Outcome::Forbidden)?;
+            Ok(text)
+        }
+        Some(cut) => {
+            let text = allowed_at(alloc, events.events().len() as u32, cut)?;
+            Ok(text)
         }
     }
 }
 
-/// What is answered to a litmus file of these bytes.
-#[tactic(auto, using(crate::proofs::SmallTexts::small_text))]
-pub fn check_bytes(alloc: Global, bytes: &[u8]) -> Result<Outcome, AllocError>
-    ensures { IfOk result (λ o. IsVerdict bytes.now o.status o.text.items) }
+/// Whether a crash answers the test's question: `allowed` with such a crash, or `forbidden`.
+pub fn check(alloc: Global, litmus: &Litmus) -> Result<Answer, AllocError>
+    ensures { IfOk result (λ a. IsChecked litmus.now a.status a.text.items) }
 {
-    match read(alloc, bytes) {
-        Err(ReadFault::OutOfMemory) => Err(AllocError),
-        Err(ReadFault::Refused { line }) => {
-            let outcome = refusal(alloc, line, FaultKind::BadLine)?;
-            Ok(outcome)
+    match resolve(alloc, litmus, &[]) {
+        Ok(events) => {
+            let text = verdict(alloc, litmus, &events)?;
+            Ok(answered(text))
         }
-        Ok(litmus) => {
-            let outcome = check_litmus(alloc, &litmus)?;
-            Ok(outcome)
+        Err(fault) => {
+            let answer = unresolved(alloc, fault)?;
+            Ok(answer)
         }
     }
 }

@@ -1,27 +1,21 @@
-//! All that the program does: it reads the words of its command line and the litmus file that they name, goes
-//! through the crashes, and writes the answer. Each step is a function with a contract of its own, and the
-//! contract of `run` is what they come to together.
+//! All that the program does: it reads the words of its command line, fetches and reads the litmus file that they name,
+//! and answers the command. Each step is a function with a contract of its own, and the contract of `run` is what they
+//! come to together. It stands on the reader of litmus files, on the events that their calls become, on the state that
+//! crashes leave, and on the texts of `report`.
 #![tactic(auto)]
 
+mod answer;
 mod checking;
 mod command;
-mod fault_kind;
-mod first_cut;
+mod cuts;
 mod laws;
-mod line_forms;
-mod lines;
-mod naming;
+mod listing;
 mod reading;
-mod refusing;
-mod resolving;
-mod terms;
-mod texts;
 mod top;
-mod verdict;
 mod words;
 mod writing;
 
-pub use laws::{one_answer, one_reading};
+pub use laws::one_answer;
 pub use top::run;
 pub use words::Words;
 

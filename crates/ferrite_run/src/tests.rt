@@ -15,11 +15,19 @@ fn words_of(alloc: Global, words: &[&str]) -> Result<Words, AllocError> {
     Ok(line)
 }
 
-/// What a run writes about a file of this text, and its status as the last byte.
-fn written(alloc: Global, text: &str) -> Result<Vec<u8>, AllocError> {
-    let words = words_of(alloc, &["check", "a.lit", "@sequential"])?;
+/// The words of a command on `a.lit`.
+fn words_for(alloc: Global, command: &str) -> Result<Words, AllocError> {
+    if command == "show" {
+        return words_of(alloc, &[command, "a.lit"]);
+    }
+    words_of(alloc, &[command, "a.lit", "@sequential"])
+}
+
+/// What a command writes about a file of these bytes, and its status as the last byte.
+fn written(alloc: Global, command: &str, bytes: &[u8]) -> Result<Vec<u8>, AllocError> {
+    let words = words_for(alloc, command)?;
     let mut library = MemLibrary::new(alloc);
-    library.put("a.lit", text.as_bytes())?;
+    library.put("a.lit", bytes)?;
     let mut out = MemSink::new(alloc, 1000, 1000)?;
     let status = run(alloc, &words, &mut library, &mut out);
     let mut all = Vec::from_slice(alloc, out.bytes())?;
@@ -28,34 +36,270 @@ fn written(alloc: Global, text: &str) -> Result<Vec<u8>, AllocError> {
 }
 
 #[test]
-fn answers(rt: HostRuntime) -> Result<(), Fail> {
-    for (text, want) in [
+fn checks(rt: HostRuntime) -> Result<(), Fail> {
+    let rows = [
         (FIRST, "forbidden\n0"),
         (
             "litmus a\nbody:\ncreate /f\nexists: exists(/f)",
             "allowed\norder 1 |\n0",
         ),
-        (
-            "litmus a\nbody:\n  mark a\nexists: not seen(a)\n",
-            "allowed\norder | 1\n0",
-        ),
+        ("litmus empty\nbody:\nexists: true\n", "allowed\norder |\n0"),
         (
             "litmus a\nbody:\nmark a\nmark b\nexists: seen(a) and not seen(b)\n",
             "allowed\norder 1 | 2\n0",
         ),
-        ("", "litmus refused: line 1 kind 3\n4"),
-        ("litmus a\nbody:\n", "litmus refused: line 3 kind 3\n4"),
         (
-            "litmus a\nbody:\ncreate /f\ncreate /f\nexists: exists(/f)\n",
-            "litmus refused: line 4 kind 11\n4",
+            "litmus replace\nsetup:\ncreate /f\nwrite /f 0 \"old\"\nbody:\ncreate /g\nwrite /g 0 \"new\"\nrename /g /f\nexists: content(/f) = \"old\"\n",
+            "allowed\norder | 1 2 3 4\n0",
         ),
         (
-            "litmus a\nbody:\nmark a\nexists: seen(b)\n",
+            "litmus replace\nsetup:\ncreate /f\nwrite /f 0 \"old\"\nbody:\ncreate /g\nwrite /g 0 \"new\"\nrename /g /f\nexists: same(/f, /g)\n",
+            "forbidden\n0",
+        ),
+        (
+            "litmus x\nblock 4\nsetup:\ncreate /f\nwrite /f 0 \"aaaabbbb\"\nbody:\nwrite /f 0 \"AAAABBBB\"\nexists: content(/f) = \"aaaaBBBB\"\n",
+            "forbidden\n0",
+        ),
+        (
+            "litmus x\nsetup:\ncreate /f\nwrite /f 0 \"ab\"\nbody:\nwrite /f 1 \"XY\"\nwrite /f 6 \"Z\"\nexists: content(/f) = \"aXY\\x00\\x00\\x00Z\"\n",
+            "allowed\norder 1 2 |\n0",
+        ),
+        (
+            "litmus x\nsetup:\ncreate /f\nbody:\nattr /f mode 7\nexists: attr(/f, mode) = 7\n",
+            "allowed\norder 1 |\n0",
+        ),
+        (
+            "litmus x\nsetup:\ncreate /f\nbody:\nattr /f mode 7\nexists: attr(/f, mode) = 8\n",
+            "forbidden\n0",
+        ),
+        (
+            "litmus x\nsetup:\ncreate /f\nbody:\nattr /f mode 7\nalways: attr(/f, mode) = 7\n",
+            "allowed\norder | 1\n0",
+        ),
+    ];
+    for (text, want) in rows {
+        let answer = written(rt.alloc(), "check", text.as_bytes())?;
+        assert_eq!(rt; answer.as_slice(), want.as_bytes(), "at {text}");
+    }
+    Ok(())
+}
+
+#[test]
+fn refusals(rt: HostRuntime) -> Result<(), Fail> {
+    let rows = [
+        (
+            "litmus x\nbody:\nwrite /f 0 \"a\"\nexists: true\n",
+            "litmus refused: line 3 kind 10\n4",
+        ),
+        (
+            "litmus x\nbody:\ncreate /f\nexists: seen(w)\n",
             "litmus refused: line 4 kind 15\n4",
         ),
-    ] {
-        let answer = written(rt.alloc(), text)?;
+        (
+            "litmus x\nbody:\nmkdir /d\nexists: true\n",
+            "litmus refused: line 3 kind 6\n4",
+        ),
+        (
+            "litmus x\nbody:\nwrite /f 0 \"a\"\n",
+            "litmus refused: line 4 kind 8\n4",
+        ),
+        (
+            "litmus x\nsetup:\ncreate /f\nlink /f /g\nbody:\ntruncate /f 65537\nexists: true\n",
+            "litmus refused: line 6 kind 13\n4",
+        ),
+        (
+            "litmus x\nsetup:\ncreate /f\nlink /f /g\nbody:\nfsyncdir /f\nexists: true\n",
+            "litmus refused: line 6 kind 12\n4",
+        ),
+        (
+            "litmus x\nsetup:\ncreate /f\nlink /f /g\nbody:\ncreate /f\nexists: true\n",
+            "litmus refused: line 6 kind 11\n4",
+        ),
+    ];
+    for (text, want) in rows {
+        let answer = written(rt.alloc(), "check", text.as_bytes())?;
         assert_eq!(rt; answer.as_slice(), want.as_bytes(), "at {text}");
+    }
+    Ok(())
+}
+
+#[test]
+fn tables_and_texts(rt: HostRuntime) -> Result<(), Fail> {
+    let rows = [
+        (
+            "events",
+            "litmus x\nsetup:\ncreate /f\nwrite /f 0 \"ab\"\nbody:\nwrite /f 1 \"XY\"\nwrite /f 6 \"Z\"\nexists: true\n",
+            "event 1 extend file 0 block 0 at 1 len 2 size 3 call 1 txn 1\nevent 2 extend file 0 block 0 at 6 len 1 size 7 call 2 txn 2\nkeep 1 2\n0",
+        ),
+        (
+            "events",
+            "litmus replace\nsetup:\nmkdir /d\ncreate /d/f\nbody:\ncreate /g\nrename /g /d/f\nattr /d/f mode 7\nfsync /d/f\nfsyncdir /d\nfsyncdir /\nsync\nmark done\nexists: true\n",
+            "event 1 link path /g file 1 call 1 txn 1\nevent 2 link path /d/f file 1 call 2 txn 2\nevent 3 unlink path /g file 1 call 2 txn 2\nevent 4 attr file 1 key mode value 7 call 3 txn 3\nevent 5 fsync file 1 call 4 txn 4\nevent 6 fsyncdir path /d call 5 txn 5\nevent 7 fsyncdir path / call 6 txn 6\nevent 8 sync call 7 txn 7\nevent 9 mark word done call 8 txn 8\nkeep 1 2\nkeep 1 3\nkeep 1 4\nkeep 1 5\nkeep 1 6\nkeep 1 7\nkeep 1 8\nkeep 1 9\nkeep 2 3\nkeep 2 4\nkeep 2 5\nkeep 2 6\nkeep 2 7\nkeep 2 8\nkeep 2 9\nkeep 3 4\nkeep 3 5\nkeep 3 6\nkeep 3 7\nkeep 3 8\nkeep 3 9\nkeep 4 5\nkeep 4 6\nkeep 4 7\nkeep 4 8\nkeep 4 9\nkeep 5 6\nkeep 5 7\nkeep 5 8\nkeep 5 9\nkeep 6 7\nkeep 6 8\nkeep 6 9\nkeep 7 8\nkeep 7 9\nkeep 8 9\n0",
+        ),
+        (
+            "events",
+            "litmus x\nblock 4\nsetup:\ncreate /f\nwrite /f 0 \"abcdef\"\nbody:\nwrite /f 2 \"WXYZ12\"\nexists: true\n",
+            "event 1 write file 0 block 0 at 2 len 2 call 1 txn 1\nevent 2 extend file 0 block 1 at 4 len 4 size 8 call 1 txn 2\nkeep 1 2\n0",
+        ),
+        (
+            "events",
+            "litmus x\nblock 4\nsetup:\ncreate /f\nwrite /f 0 \"abcdef\"\nbody:\ntruncate /f 9\nexists: true\n",
+            "event 1 trunc file 0 size 9 call 1 txn 1\n0",
+        ),
+        (
+            "events",
+            "litmus x\nblock 4\nsetup:\ncreate /f\nwrite /f 0 \"abcdef\"\nbody:\nappend /f \"\"\nexists: true\n",
+            "0",
+        ),
+        (
+            "events",
+            "litmus x\nsetup:\ncreate /f\nlink /f /g\nbody:\nrename /f /g\nexists: true\n",
+            "0",
+        ),
+        (
+            "events",
+            "litmus x\nsetup:\ncreate /f\nlink /f /g\nbody:\ntruncate /f 65536\nexists: true\n",
+            "event 1 trunc file 0 size 65536 call 1 txn 1\n0",
+        ),
+        (
+            "events",
+            "litmus x\nbody:\nmkdir /d\nexists: true\n",
+            "litmus refused: line 3 kind 6\n4",
+        ),
+        (
+            "events",
+            "litmus x\nbody:\nwrite /f 0 \"a\"\nexists: true\n",
+            "litmus refused: line 3 kind 10\n4",
+        ),
+        (
+            "show",
+            "  litmus   a\nbody:\nappend /f \"\\x41\\x22\"  # end\nalways: not(true or false)",
+            "litmus a\nblock 4096\nsetup:\nbody:\n  append /f \"A\\\"\"\nalways: not (true or false)\n0",
+        ),
+        (
+            "show",
+            "litmus a\nbody:\ncreate /f\nexists: exists(/f)\n",
+            "litmus a\nblock 4096\nsetup:\nbody:\n  create /f\nexists: exists(/f)\n0",
+        ),
+        (
+            "show",
+            "litmus x\nbody:\nmkdir /d\nexists: true\n",
+            "litmus refused: line 3 kind 6\n4",
+        ),
+    ];
+    for (command, text, want) in rows {
+        let answer = written(rt.alloc(), command, text.as_bytes())?;
+        assert_eq!(rt; answer.as_slice(), want.as_bytes(), "at {text}");
+    }
+    Ok(())
+}
+
+/// A text that begins as given, with so many numbered lines behind it.
+fn with_lines(
+    alloc: Global,
+    head: &[u8],
+    count: u32,
+    before: &str,
+    behind: &str,
+) -> Result<Vec<u8>, AllocError> {
+    let mut text = Vec::from_slice(alloc, head)?;
+    for number in 0..count {
+        let line = format!(in alloc; "{before}{number}{behind}\n")?;
+        text.extend_from_slice(line.as_bytes())?;
+    }
+    Ok(text)
+}
+
+#[test]
+fn limits(rt: HostRuntime) -> Result<(), Fail> {
+    let alloc = rt.alloc();
+    let marks = with_lines(alloc, b"litmus many\nbody:\n", 64, "mark a #", "")?;
+    let rows = [
+        (
+            "litmus many\nbody:\n".as_bytes(),
+            64,
+            "mark a #",
+            "",
+            "exists: false\n",
+            "litmus refused: line 67 kind 14\n4",
+        ),
+        (
+            marks.as_slice(),
+            64,
+            "sync #",
+            "",
+            "exists: false\n",
+            "litmus refused: line 131 kind 14\n4",
+        ),
+        (
+            "litmus x\nsetup:\n".as_bytes(),
+            32,
+            "create /f",
+            "",
+            "body:\nexists: false\n",
+            "litmus refused: line 35 kind 16\n4",
+        ),
+        (
+            "litmus x\nsetup:\n".as_bytes(),
+            15,
+            "mkdir /d",
+            "",
+            "body:\nexists: false\n",
+            "litmus refused: line 18 kind 16\n4",
+        ),
+        (
+            "litmus x\nsetup:\ncreate /f\n".as_bytes(),
+            63,
+            "link /f /n",
+            "",
+            "body:\nexists: false\n",
+            "litmus refused: line 67 kind 16\n4",
+        ),
+        (
+            "litmus x\nsetup:\ncreate /f\n".as_bytes(),
+            16,
+            "attr /f k",
+            " 1",
+            "body:\nexists: false\n",
+            "litmus refused: line 20 kind 16\n4",
+        ),
+    ];
+    for (head, count, before, behind, tail, refused) in rows {
+        for (more, want) in [(0, "forbidden\n0"), (1, refused)] {
+            let mut text = with_lines(alloc, head, count + more, before, behind)?;
+            text.extend_from_slice(tail.as_bytes())?;
+            let answer = written(alloc, "check", text.as_slice())?;
+            assert_eq!(rt; answer.as_slice(), want.as_bytes(), "at {before}");
+        }
+    }
+    Ok(())
+}
+
+#[test]
+fn names_asked_and_long_files(rt: HostRuntime) -> Result<(), Fail> {
+    let alloc = rt.alloc();
+    let mut text = with_lines(
+        alloc,
+        b"litmus x\nsetup:\ncreate /f\n",
+        63,
+        "link /f /n",
+        "",
+    )?;
+    text.extend_from_slice(b"body:\nexists: exists(/g)\n")?;
+    let answer = written(alloc, "check", text.as_slice())?;
+    assert_eq!(rt;
+        answer.as_slice(),
+        b"litmus refused: line 68 kind 16\n4".as_slice()
+    );
+    for (len, want) in [
+        (65536, "litmus refused: line 2 kind 8\n4"),
+        (65537, "litmus refused: line 0 kind 9\n4"),
+    ] {
+        let bytes = vec![in alloc; b'#'; len]?;
+        for command in ["check", "events", "show"] {
+            let answer = written(alloc, command, bytes.as_slice())?;
+            assert_eq!(rt; answer.as_slice(), want.as_bytes());
+        }
     }
     Ok(())
 }
@@ -63,27 +307,29 @@ fn answers(rt: HostRuntime) -> Result<(), Fail> {
 #[test]
 fn faults(rt: HostRuntime) -> Result<(), Fail> {
     let alloc = rt.alloc();
-    let words = words_of(alloc, &["check", "a.lit", "@sequential"])?;
-    let mut library = MemLibrary::new(alloc);
-    let mut out = MemSink::new(alloc, 100, 100)?;
-    assert_eq!(rt; run(alloc, &words, &mut library, &mut out), 6);
-    assert_eq!(rt; out.bytes(), b"not found: litmus\n".as_slice());
-    library.put("a.lit", FIRST.as_bytes())?;
-    let mut out = MemSink::new(alloc, 100, 4)?;
-    out.fail_at(2)?;
-    assert_eq!(rt; run(alloc, &words, &mut library, &mut out), 8);
-    assert_eq!(rt; out.bytes(), b"forb".as_slice());
-    library.fail_at(3)?;
-    let mut out = MemSink::new(alloc, 100, 100)?;
-    assert_eq!(rt; run(alloc, &words, &mut library, &mut out), 7);
-    assert_eq!(rt; out.bytes(), b"read fault: litmus\n".as_slice());
+    for command in ["check", "events", "show"] {
+        let words = words_for(alloc, command)?;
+        let mut library = MemLibrary::new(alloc);
+        let mut out = MemSink::new(alloc, 100, 100)?;
+        assert_eq!(rt; run(alloc, &words, &mut library, &mut out), 6);
+        assert_eq!(rt; out.bytes(), b"not found: litmus\n".as_slice());
+        library.put("a.lit", FIRST.as_bytes())?;
+        let mut out = MemSink::new(alloc, 100, 4)?;
+        out.fail_at(2)?;
+        assert_eq!(rt; run(alloc, &words, &mut library, &mut out), 8);
+        assert_eq!(rt; out.bytes().len(), 4);
+        library.fail_at(3)?;
+        let mut out = MemSink::new(alloc, 100, 100)?;
+        assert_eq!(rt; run(alloc, &words, &mut library, &mut out), 7);
+        assert_eq!(rt; out.bytes(), b"read fault: litmus\n".as_slice());
+    }
     Ok(())
 }
 
 #[test]
 fn a_sure_library_and_sink(rt: HostRuntime) -> Result<(), Fail> {
     let alloc = rt.alloc();
-    let words = words_of(alloc, &["check", "a.lit", "@sequential"])?;
+    let words = words_for(alloc, "check")?;
     let mut library = SureLibrary::new(alloc);
     library.put("a.lit", FIRST.as_bytes())?;
     let mut out = SureSink::new();
@@ -94,13 +340,23 @@ fn a_sure_library_and_sink(rt: HostRuntime) -> Result<(), Fail> {
 #[test]
 fn words_are_no_command_line(rt: HostRuntime) -> Result<(), Fail> {
     let alloc = rt.alloc();
-    let words = words_of(alloc, &["check", "a.lit"])?;
-    let mut library = MemLibrary::new(alloc);
-    let mut out = MemSink::new(alloc, 1000, 1000)?;
-    assert_eq!(rt; run(alloc, &words, &mut library, &mut out), 3);
-    assert_eq!(rt;
-        out.bytes(),
-        b"usage: ferrite check L M | repair L M | verify L M F | replay L M C | events L M | show L | models | work SEED CALLS\n".as_slice()
-    );
+    for line in [
+        [].as_slice(),
+        &["check", "a.lit"],
+        &["show", "a.lit", "@sequential"],
+        &["check", "a.lit", "@ext3"],
+        &["events", "a.lit", "@loose"],
+        &["check", "a.lit", "@sequential", "--log"],
+        &["models"],
+    ] {
+        let words = words_of(alloc, line)?;
+        let mut library = MemLibrary::new(alloc);
+        let mut out = MemSink::new(alloc, 1000, 1000)?;
+        assert_eq!(rt; run(alloc, &words, &mut library, &mut out), 3);
+        assert_eq!(rt;
+            out.bytes(),
+            b"usage: ferrite check L M | repair L M | verify L M F | replay L M C | events L M | show L | models | work SEED CALLS\n".as_slice()
+        );
+    }
     Ok(())
 }

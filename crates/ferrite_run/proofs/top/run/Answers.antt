@@ -7,7 +7,7 @@ use Rattle.ferrite_run.proofs.top.run.Goals.{In-Ok}
 
 pub returns-then-write_whole-clause-answered : goal.returns-then-write_whole-clause-answered
 returns-then-write_whole-clause-answered g c = λ _.
-    let text = c.in-Ok.outcome.text.items in
+    let text = c.in-Ok.answer.text.items in
     (text, c.in-Ok.ensures.answered, subst (Grew (g.K.Sink.written c.args.out.now) (g.K.Sink.written c.write_whole.new.out)) c.as_slice.ensures.value c.if-write_whole.ensures.whole)
 
 pub returns-then-write_whole-clause-cut_short : goal.returns-then-write_whole-clause-cut_short
@@ -24,16 +24,16 @@ returns-then-write_whole-clause-known g c = omega (arith, answer_below _ _ _ _ _
 
 pub returns-clause-cut_short : goal.returns-clause-cut_short
 returns-clause-cut_short g c = λ _.
-    let text = c.in-Ok.outcome.text.items in
+    let text = c.in-Ok.answer.text.items in
     let (front, proper, grew) = c.if-write_whole.ensures.whole in
-    (c.in-Ok.outcome.status, text, front, c.in-Ok.ensures.answered, subst (IsProperFront front) c.as_slice.ensures.value proper, grew)
+    (c.in-Ok.answer.status, text, front, c.in-Ok.ensures.answered, subst (IsProperFront front) c.as_slice.ensures.value proper, grew)
 
 pub returns-then-write_whole-clause-complete : goal.returns-then-write_whole-clause-complete
 returns-then-write_whole-clause-complete g c = λ calm _.
-    let text = c.in-Ok.outcome.text.items in
-    let rose : List ℕ → Type 0 = λ name. Rose (g.L.Library.faults c.args.library.now name) (g.L.Library.faults c.answer.new.library name) in
+    let text = c.in-Ok.answer.text.items in
+    let rose : List ℕ → Type 0 = λ name. Rose (g.L.Library.faults c.args.library.now name) (g.L.Library.faults c.answer_words.new.library name) in
     inr (
       text,
-      answer_calm (g.L.Library.held c.args.library.now) rose c.args.words.now c.in-Ok.outcome.status text calm c.in-Ok.ensures.answered,
+      answer_calm (g.L.Library.held c.args.library.now) rose c.args.words.now c.in-Ok.answer.status text calm c.in-Ok.ensures.answered,
       subst (Grew (g.K.Sink.written c.args.out.now) (g.K.Sink.written c.write_whole.new.out)) c.as_slice.ensures.value c.if-write_whole.ensures.whole,
     )
