@@ -6,15 +6,15 @@ use Rattle.text_scan.specs.declared.scanning.TokenKind.{TokenKind}
 use Rattle.text_scan.specs.declared.scanning.TokenKind.TheVariants.{Word, Number, PathToken, TextToken, Sign}
 use Rattle.text_scan.specs.declared.scanning.Token.{Token}
 use Rattle.text_scan.specs.declared.scanning.ScanError.TheVariants.{BadByte, BadToken}
-use Rattle.text_scan.specs.declared.places.Place.TheVariants.{Outside}
 use Rattle.text_scan.specs.Bytes.{is_hex_digit}
-use Rattle.text_scan.specs.Places.{has_bad_byte_from}
+use Rattle.text_scan.specs.Comments.{IsEnd}
 use Rattle.text_scan.specs.Items.{is_plain, escaped, hex_value, IsItem, plain, short, hex, Spells, IsText}
 use Rattle.text_scan.specs.Forms.{is_word, is_number, is_path, is_one_sign, HasForm}
 use Rattle.text_scan.specs.Faults.{IsBad, HasBadToken, IsFault}
 use Rattle.text_scan.specs.Kinds.{kind_of, kind_at_front, token_len}
-use Rattle.text_scan.specs.Tokens.{behind_blanks, IsNext, IsEnd, IsTokens}
+use Rattle.text_scan.specs.Tokens.{behind_blanks, IsNext, IsTokens}
 use Rattle.text_scan.proofs.Spelling.{no_item_none, no_item_first, no_item_lone, no_item_hex, no_item_short, plain_item, short_item, hex_item, left_all, left_none, behind_item}
+use Rattle.text_scan.proofs.Fronts.{bad_or_not}
 use Rattle.text_scan.proofs.Following.{IsReadTo, read_none, read_more, read_all, read_bad}
 
 -- an item at the front of some bytes, and the rest
@@ -193,10 +193,10 @@ scanned (suc n) line tokens place few h = scanned_now line tokens place h (λ mo
 -- each line has tokens, or a bad byte, or no bad byte and a bad token
 pub some_answer : (line : List ℕ) → ((tokens : List Token) × IsTokens line tokens) ⊎ IsFault line BadByte ⊎ IsFault line BadToken
 some_answer line =
-    elim (cases_Bool (has_bad_byte_from Outside line)) [
+    elim (bad_or_not (length line) line (omega arith)) [
       | inl bad ↦ inr (inl bad)
       | inr clean ↦ elim (scanned (length line) line [] 0 (omega arith) (read_none line)) [
         | inl tokens ↦ inl tokens
-        | inr bad ↦ inr (inr (λ h. true≢false (sym h ∙ clean), bad))
+        | inr bad ↦ inr (inr (clean, bad))
       ]
     ]

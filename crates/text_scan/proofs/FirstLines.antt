@@ -1,14 +1,10 @@
--- The lines of a file, cut off one after the other.
-use Rattle.std.proofs.Common.{◌≡◌, ◌≢◌, inl, inr, ℕ, zero, suc, ◌+◌, ◌-◌, ◌<◌, ◌≤◌, Bool, cond, true, false, ◌&&◌, nat_lt, List, [], ◌∷◌, ◌++◌, length, map, take, drop, get_or, eqb, Some, slice_get, refl, sym, ◌∙◌, ap, ap₂, subst, append_assoc, length-append, arith}
+-- The first line of a file, and how many lines it has.
+use Rattle.std.proofs.Common.{◌≡◌, ◌≢◌, inl, inr, ℕ, zero, suc, ◌+◌, ◌-◌, ◌<◌, ◌≤◌, Bool, cond, true, false, ◌&&◌, nat_lt, List, [], ◌∷◌, length, take, drop, get_or, eqb, refl, sym, ◌∙◌, ap, ap₂, arith}
 use Rattle.std.proofs.Math.Seq.{take-length, drop-length}
-use Rattle.std.proofs.lemmas.List.{drop-drop, length-drop, map_push}
-use Rattle.std.proofs.lemmas.List.Elements.{All-nil, All-push}
-use Rattle.std.proofs.lemmas.List.Quantifiers.{all_pairs_push}
-use Rattle.std.specs.List.{onto_first, range_with_len, All, AllPairs}
+use Rattle.std.specs.List.{onto_first}
 use Rattle.std.proofs.lemmas.Bool.{ne_eqb, lt-ltb}
 use Rattle.std.proofs.lemmas.Bool.Decides.{eqb_tells}
-use Rattle.text_scan.specs.declared.cutting.Line.{Line}
-use Rattle.text_scan.specs.Lines.{feed_is_first, lines_of, line_text, IsLineStart, IsPlaced}
+use Rattle.text_scan.specs.Lines.{feed_is_first, lines_of}
 
 -- a byte that ends no line
 other_byte : (b : ℕ) (bs : List ℕ) → b ≢ 10 → eqb b 13 && feed_is_first bs ≡ false → lines_of (b ∷ bs) ≡ onto_first b (lines_of bs)
@@ -63,17 +59,6 @@ last_line b (c ∷ cs) none =
     other_byte b (c ∷ cs) (none 0 (omega arith)) (no_feed b c cs (none 1 (omega arith)))
     ∙ ap (onto_first b) (last_line c cs (λ k h. none (suc k) (omega arith)))
 
--- the lines up to a place are cut off, and the rest begins a line
-pub record IsCutTo (bytes : List ℕ) (lines : List Line) (start : ℕ) : Type 0 where
-  pub within : start ≤ length bytes
-  pub few : length lines ≤ start
-  pub texts : map (line_text bytes) lines ++ lines_of (drop start bytes) ≡ lines_of bytes
-  pub numbered : map (λ line. line.number) lines ≡ range_with_len 1 (length lines)
-  pub begun : start < length bytes → IsLineStart bytes start
-  pub placed : All (IsPlaced bytes) lines
-  pub ascending : AllPairs (λ a b. a.end < b.start) lines
-  pub apart : start < length bytes → All (λ line. line.end < start) lines
-
 -- the line feed at i is the first one: the first line, without the return that may stand before the feed
 pub first_ended : (bs : List ℕ) (i text : ℕ) → i < length bs → ((k : ℕ) → k < i → get_or bs k 0 ≢ 10) → get_or bs i 0 ≡ 10
     → text ≡ cond (nat_lt 0 i && eqb (get_or bs (i - 1) 0) 13) (i - 1) i → lines_of bs ≡ take text bs ∷ lines_of (drop (i + 1) bs)
@@ -95,88 +80,22 @@ first_ended bs (suc i) text below before at is =
           ∙ ap (λ (n : ℕ). take n bs ∷ lines_of (drop (suc i + 1) bs)) (sym at')
     ]
 
--- the line feed stands directly before what follows
-pub feed_before : (bs : List ℕ) (i : ℕ) → i < length bs → get_or bs i 0 ≡ 10 → slice_get bs (i + 1 - 1) ≡ Some 10
-feed_before bs i below at = let same : i ≡ i + 1 - 1 = omega arith in ap (slice_get bs) (sym same) ∙ found bs i below at
-  where
-    found : (bs : List ℕ) (i : ℕ) → i < length bs → get_or bs i 0 ≡ 10 → slice_get bs i ≡ Some 10
-    found [] i below at = absurd (omega arith)
-    found (b ∷ bs) zero below at = ap (λ (x : ℕ). Some x) at
-    found (b ∷ bs) (suc i) below at = found bs i (omega arith) at
-
 pub first_last : (bs : List ℕ) → 0 < length bs → ((k : ℕ) → k < length bs → get_or bs k 0 ≢ 10) → lines_of bs ≡ take (length bs) bs ∷ lines_of (drop (length bs) bs)
 first_last [] some none = absurd (omega arith)
 first_last (b ∷ bs) some none = last_line b bs none ∙ ap₂ (λ (x : List ℕ) (y : List ℕ). x ∷ lines_of y) (sym (take-length (b ∷ bs))) (sym (drop-length (b ∷ bs)))
 
-pub cut_none : (bytes : List ℕ) → IsCutTo bytes [] 0
-cut_none bytes = record {
-  within = omega arith;
-  few = omega arith;
-  texts = refl;
-  numbered = refl;
-  begun = λ h. (h, inl refl);
-  placed = All-nil (IsPlaced bytes);
-  ascending = λ i j d h k. absurd (omega arith);
-  apart = λ h. All-nil (λ line. line.end < 0);
-}
+-- the first line and the bytes behind it are such pieces
+pub cut_at : (bs line behind : List ℕ) (text whole : ℕ) → lines_of bs ≡ take text bs ∷ lines_of (drop whole bs) → line ≡ take text bs → behind ≡ drop whole bs
+    → lines_of bs ≡ line ∷ lines_of behind
+cut_at bs line behind text whole cut front back = cut ∙ ap₂ (λ (x y : List ℕ). x ∷ lines_of y) (sym front) (sym back)
 
-range_more : (a n : ℕ) → range_with_len a (n + 1) ≡ range_with_len a n ++ (a + n) ∷ []
-range_more a zero = let same : a ≡ a + 0 = omega arith in ap (λ (x : ℕ). x ∷ []) same
-range_more a (suc n) =
-    let one : suc n + 1 ≡ suc (n + 1) = omega arith in
-    let same : a + 1 + n ≡ a + suc n = omega arith in
-    ap (range_with_len a) one ∙ ap (λ (x : List ℕ). a ∷ x) (range_more (a + 1) n) ∙ ap (λ (x : ℕ). a ∷ (range_with_len (a + 1) n ++ x ∷ [])) same
-
--- what is known of the first line of the rest
-pub record IsFirstCut (rest : List ℕ) (text whole : ℕ) : Type 0 where
-  pub cut : lines_of rest ≡ take text rest ∷ lines_of (drop whole rest)
-  pub forward : text ≤ whole
-  pub some : 0 < whole
-  pub within : whole ≤ length rest
-  pub ended : whole < length rest → slice_get rest (whole - 1) ≡ Some 10
-  pub apart : whole < length rest → text < whole
-
-slice_get_drop : (n k : ℕ) (xs : List ℕ) → slice_get (drop n xs) k ≡ slice_get xs (n + k)
-slice_get_drop zero k xs = let same : k ≡ 0 + k = omega arith in ap (slice_get xs) same
-slice_get_drop (suc n) k [] = refl
-slice_get_drop (suc n) k (x ∷ xs) =
-    let same : suc (n + k) ≡ suc n + k = omega arith in slice_get_drop n k xs ∙ ap (slice_get (x ∷ xs)) same
-
--- one line more is cut off
-pub cut_more : (bytes : List ℕ) (lines new : List Line) (start text whole : ℕ) (line : Line) → IsCutTo bytes lines start → IsFirstCut (drop start bytes) text whole
-    → start < length bytes → line.number ≡ 1 + length lines → line.start ≡ start → line.end ≡ start + text → new ≡ lines ++ line ∷ [] → IsCutTo bytes new (start + whole)
-cut_more bytes lines new start text whole line c f more number from to is =
-    let rest_len : length (drop start bytes) ≡ length bytes - start = length-drop start bytes in
-    let count : length new ≡ length lines + 1 = ap length is ∙ length-append lines (line ∷ []) in
-    let span : line.end - line.start ≡ text = omega arith in
-    let its_text : line_text bytes line ≡ take text (drop start bytes) =
-    ap (λ (n : ℕ). take n (drop line.start bytes)) span ∙ ap (λ (n : ℕ). take text (drop n bytes)) from in
-    let next : lines_of (drop start bytes) ≡ line_text bytes line ∷ lines_of (drop (start + whole) bytes) =
-    f.cut ∙ ap₂ (λ (x : List ℕ) (y : List ℕ). x ∷ lines_of y) (sym its_text) (drop-drop whole start bytes) in
-    let its_place : IsPlaced bytes line = record {
-      begun = subst (IsLineStart bytes) (sym from) (c.begun more);
-      forward = omega arith;
-      within = let w = f.within in let g = f.forward in omega arith;
-    } in
-    record {
-      within = let w = f.within in omega arith;
-      few = let w = f.some in let g = c.few in omega arith;
-      texts = ap (λ (x : List (List ℕ)). x ++ lines_of (drop (start + whole) bytes)) (ap (map (line_text bytes)) is ∙ map_push (line_text bytes) lines line)
-          ∙ append_assoc (map (line_text bytes) lines) (line_text bytes line ∷ []) (lines_of (drop (start + whole) bytes))
-          ∙ ap (λ (x : List (List ℕ)). map (line_text bytes) lines ++ x) (sym next) ∙ c.texts;
-      numbered = ap (map (λ l. l.number)) is ∙ map_push (λ l. l.number) lines line
-          ∙ ap₂ (λ (x : List ℕ) (k : ℕ). x ++ k ∷ []) c.numbered number ∙ sym (range_more 1 (length lines)) ∙ ap (range_with_len 1) (sym count);
-      begun = λ h.
-          let shorter : whole < length (drop start bytes) = omega arith in
-          let same : start + (whole - 1) ≡ start + whole - 1 = let w = f.some in omega arith in
-          (h, inr (ap (slice_get bytes) (sym same) ∙ sym (slice_get_drop start (whole - 1) bytes) ∙ f.ended shorter));
-      placed = subst (All (IsPlaced bytes)) (sym is) (All-push (IsPlaced bytes) lines line c.placed its_place);
-      ascending = let R : Line → Line → Type 0 = λ a b. a.end < b.start in
-          subst (AllPairs R) (sym is) (all_pairs_push R lines line c.ascending
-          (λ k d h. let here : (get_or lines k d).end < start = c.apart more k d h in omega arith));
-      apart = λ h.
-          let shorter : whole < length (drop start bytes) = omega arith in
-          let near = f.apart shorter in
-          let E : Line → Type 0 = λ l. l.end < start + whole in
-          subst (All E) (sym is) (All-push E lines line (λ k d b. let here : (get_or lines k d).end < start = c.apart more k d b in omega arith) (omega arith));
-    }
+-- a file has no more lines than bytes
+pub few_lines : (bs : List ℕ) → length (lines_of bs) ≤ length bs
+few_lines [] = omega arith
+few_lines (b ∷ bs) = chosen (eqb b 10) (eqb b 13 && feed_is_first bs) (lines_of bs) (few_lines bs)
+  where
+    chosen : (feed return : Bool) (ls : List (List ℕ)) → length ls ≤ length bs → length (cond feed ([] ∷ ls) (cond return ls (onto_first b ls))) ≤ length (b ∷ bs)
+    chosen true return ls h = omega arith
+    chosen false true ls h = omega arith
+    chosen false false [] h = omega arith
+    chosen false false (l ∷ ls) h = omega arith

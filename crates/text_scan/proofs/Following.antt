@@ -7,14 +7,13 @@ use Rattle.std.proofs.lemmas.List.Elements.{All-nil, All-push}
 use Rattle.text_scan.specs.declared.scanning.TokenKind.{TokenKind}
 use Rattle.text_scan.specs.declared.scanning.TokenKind.TheVariants.{Word, Number, PathToken, TextToken, Sign}
 use Rattle.text_scan.specs.declared.scanning.Token.{Token}
-use Rattle.text_scan.specs.declared.places.Place.{Place}
-use Rattle.text_scan.specs.declared.places.Place.TheVariants.{InText}
-use Rattle.text_scan.specs.Places.{place_behind, is_outside, text_len}
 use Rattle.text_scan.specs.Bytes.{is_name_byte, is_path_byte, is_blank}
+use Rattle.text_scan.specs.Comments.{IsEnd}
 use Rattle.text_scan.specs.Forms.{HasForm}
 use Rattle.text_scan.specs.Faults.{IsBad, IsBadNext, HasBadToken}
 use Rattle.text_scan.specs.Kinds.{kind_of, kind_at_front, len_behind, token_len}
-use Rattle.text_scan.specs.Tokens.{behind_blanks, token_text, IsToken, IsNext, IsEnd, IsLast, Follow, IsTokens}
+use Rattle.text_scan.specs.Tokens.{behind_blanks, token_text, IsToken, IsNext, IsLast, Follow, IsTokens}
+use Rattle.text_scan.proofs.Ends.{text_within}
 
 -- two tokens that begin at one place are one token
 same_token : (line : List ℕ) (t u : Token) → t.start ≡ u.start → IsToken line t → IsToken line u → t ≡ u
@@ -39,7 +38,7 @@ last_no_token : (line : List ℕ) (place : ℕ) (t : Token) → IsLast line plac
 last_no_token line place t last next =
     end_no_kind (drop t.start line) t.kind (subst (λ (n : ℕ). IsEnd (drop n line)) (sym next.0) last) next.1.kind
 
-span : (line : List ℕ) (t : Token) → IsToken line t → token_text line t ≡ take (token_len (drop t.start line)) (drop t.start line)
+pub span : (line : List ℕ) (t : Token) → IsToken line t → token_text line t ≡ take (token_len (drop t.start line)) (drop t.start line)
 span line t is = let same : t.end - t.start ≡ token_len (drop t.start line) = let e = is.longest in omega arith in ap (λ (n : ℕ). take n (drop t.start line)) same
 
 bad_no_token : (line : List ℕ) (place : ℕ) (t : Token) → IsBadNext line place → IsNext line place t → ⊥
@@ -80,19 +79,11 @@ pub follow_more : (line : List ℕ) (place end : ℕ) (ts : List Token) (t : Tok
 follow_more line place end [] t f next = (subst (λ (n : ℕ). IsNext line n t) (sym f) next, refl)
 follow_more line place end (u ∷ us) t f next = (f.0, follow_more line u.end end us t f.1 next)
 
-text_within : (bs : List ℕ) (place : Place) → text_len place bs ≤ length bs
-text_within [] place = omega arith
-text_within (b ∷ bs) place = chosen (is_outside (place_behind place b)) (text_len (place_behind place b) bs) (text_within bs (place_behind place b))
-  where
-    chosen : (out : Bool) (n : ℕ) → n ≤ length bs → cond out 1 (1 + n) ≤ length (b ∷ bs)
-    chosen true n h = omega arith
-    chosen false n h = omega arith
-
 behind_within : (kind : TokenKind) (bs : List ℕ) → len_behind (Some kind) bs ≤ length bs
 behind_within Word bs = prefix_len-le-length is_name_byte bs
 behind_within Number bs = prefix_len-le-length is_name_byte bs
 behind_within PathToken bs = prefix_len-le-length is_path_byte bs
-behind_within TextToken bs = text_within bs InText
+behind_within TextToken bs = text_within bs
 behind_within Sign bs = omega arith
 
 front_some : (front : List ℕ) (kind : TokenKind) → kind_at_front front ≡ Some kind → (0 < length front) × (0 < token_len front) × (token_len front ≤ length front)

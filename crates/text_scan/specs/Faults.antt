@@ -4,10 +4,10 @@ use Rattle.text_scan.specs.declared.scanning.TokenKind.{TokenKind}
 use Rattle.text_scan.specs.declared.scanning.Token.{Token}
 use Rattle.text_scan.specs.declared.scanning.ScanError.{ScanError}
 use Rattle.text_scan.specs.declared.scanning.ScanError.TheVariants.{BadByte, BadToken, OutOfMemory}
-use Rattle.text_scan.specs.Places.{HasBadByte}
+use Rattle.text_scan.specs.Comments.{IsEnd, HasBadByte}
 use Rattle.text_scan.specs.Forms.{HasForm}
 use Rattle.text_scan.specs.Kinds.{kind_at_front, token_len}
-use Rattle.text_scan.specs.Tokens.{behind_blanks, IsEnd, Follow}
+use Rattle.text_scan.specs.Tokens.{behind_blanks, Follow}
 
 -- something stands here, and what it takes isn't a token of the form of its kind
 pub record IsBad (front : List ℕ) : Type 0 where

@@ -3,9 +3,8 @@ use Rattle.std.specs.Prelude.{ℕ, ◌+◌, ◌==◌, if◌then◌else◌, List,
 use Rattle.std.specs.List.{prefix_len}
 use Rattle.text_scan.specs.declared.scanning.TokenKind.{TokenKind}
 use Rattle.text_scan.specs.declared.scanning.TokenKind.TheVariants.{Word, Number, PathToken, TextToken, Sign}
-use Rattle.text_scan.specs.declared.places.Place.TheVariants.{InText}
 use Rattle.text_scan.specs.Bytes.{is_first_byte, is_digit, is_name_byte, is_path_byte, is_sign}
-use Rattle.text_scan.specs.Places.{text_len}
+use Rattle.text_scan.specs.Texts.{text_len}
 
 -- the kind of the token that begins with this byte, if one does
 abbrev pub kind_of : ℕ → Option TokenKind
@@ -28,7 +27,7 @@ len_behind None bs = 0
 len_behind (Some Word) bs = prefix_len is_name_byte bs
 len_behind (Some Number) bs = prefix_len is_name_byte bs
 len_behind (Some PathToken) bs = prefix_len is_path_byte bs
-len_behind (Some TextToken) bs = text_len InText bs
+len_behind (Some TextToken) bs = text_len bs
 len_behind (Some Sign) bs = 0
 
 -- how many bytes the token at the front takes

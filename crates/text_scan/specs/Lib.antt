@@ -1,8 +1,9 @@
 pub mod Bytes
+pub mod Comments
 pub mod Faults
 pub mod Forms
 pub mod Items
 pub mod Kinds
 pub mod Lines
-pub mod Places
+pub mod Texts
 pub mod Tokens

@@ -1,8 +1,9 @@
 -- The tokens of a line.
-use Rattle.std.specs.Prelude.{◌≡◌, ℕ, ◌+◌, List, [], ◌∷◌, drop, Some, ⊤}
+use Rattle.std.specs.Prelude.{◌≡◌, ℕ, ◌+◌, List, [], ◌∷◌, drop, Some}
 use Rattle.std.specs.List.{prefix_len, slice_range}
 use Rattle.text_scan.specs.declared.scanning.Token.{Token}
 use Rattle.text_scan.specs.Bytes.{is_blank}
+use Rattle.text_scan.specs.Comments.{IsEnd}
 use Rattle.text_scan.specs.Forms.{HasForm}
 use Rattle.text_scan.specs.Kinds.{kind_at_front, token_len}
 
@@ -23,11 +24,6 @@ pub record IsToken (line : List ℕ) (token : Token) : Type 0 where
 -- the next token from this place on, which begins behind the blanks
 abbrev pub IsNext : List ℕ → ℕ → Token → Type 0
 IsNext line place token = (token.start ≡ behind_blanks line place) × IsToken line token
-
--- nothing stands here, or a comment begins
-abbrev pub IsEnd : List ℕ → Type 0
-IsEnd [] = ⊤
-IsEnd (b ∷ bs) = b ≡ 35
 
 -- from this place on there are only blanks, and perhaps a comment
 abbrev pub IsLast : List ℕ → ℕ → Type 0

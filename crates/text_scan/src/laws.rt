@@ -1,8 +1,10 @@
-ghost use Rattle.std.specs.Prelude.{◌≡◌, ◌⊎◌, ℕ, List};
+ghost use Rattle.std.specs.Prelude.{◌≡◌, ◌≤◌, ◌⊎◌, ℕ, List, ◌++◌, length};
 ghost use Rattle.text_scan.specs.declared.scanning.Token.{Token};
 ghost use Rattle.text_scan.specs.declared.scanning.ScanError.TheVariants.{BadByte, BadToken};
-ghost use Rattle.text_scan.specs.Places.{HasBadByte};
-ghost use Rattle.text_scan.specs.Items.{IsTextOf};
+ghost use Rattle.text_scan.specs.Comments.{HasBadByte};
+ghost use Rattle.text_scan.specs.Items.{IsText, IsTextOf};
+ghost use Rattle.text_scan.specs.Kinds.{token_len};
+ghost use Rattle.text_scan.specs.Lines.{lines_of};
 ghost use Rattle.text_scan.specs.Faults.{HasBadToken, IsFault};
 ghost use Rattle.text_scan.specs.Tokens.{IsTokens};
 
@@ -18,4 +20,14 @@ pub fn one_answer()
 /// A text stands for one list of bytes.
 pub fn one_meaning()
     ensures { (text a b : List ℕ) → IsTextOf text a → IsTextOf text b → a ≡ b }
+{}
+
+/// A text takes its own bytes alone, whatever stands behind it.
+pub fn text_ends()
+    ensures { (text behind : List ℕ) → IsText text → token_len (text ++ behind) ≡ length text }
+{}
+
+/// A file has no more lines than bytes.
+pub fn few_lines()
+    ensures { (bytes : List ℕ) → length (lines_of bytes) ≤ length bytes }
 {}

@@ -9,12 +9,12 @@ mod cutting;
 mod forms;
 mod items;
 mod laws;
-mod places;
+mod parts;
 mod scanning;
 
-pub use cutting::{Line, lines};
+pub use cutting::first_line;
 pub use items::unescape;
-pub use laws::{one_answer, one_meaning};
+pub use laws::{few_lines, one_answer, one_meaning, text_ends};
 pub use scanning::{ScanError, Token, TokenKind, tokens};
 
 #[cfg(test)]

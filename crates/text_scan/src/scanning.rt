@@ -1,12 +1,12 @@
 ghost use Rattle.std.specs.Prelude.{◌≡◌, ◌≢◌, ◌<◌, ◌≤◌, length, drop, Some, slice_index, All, IfOk, IfErr, MatchResult, MatchOption};
-ghost use Rattle.text_scan.specs.Places.{HasBadByte};
+ghost use Rattle.text_scan.specs.Comments.{HasBadByte};
 ghost use Rattle.text_scan.specs.Faults.{IsBad, IsBadNext, IsFault};
 ghost use Rattle.text_scan.specs.Kinds.{kind_of, len_behind};
 ghost use Rattle.text_scan.specs.Tokens.{IsToken, IsNext, IsLast, IsTokens};
 
 use crate::bytes::{blanks_len, is_digit, is_first_byte, is_sign, name_len, path_len};
 use crate::forms::has_form;
-use crate::places::{has_bad_byte, text_len_behind};
+use crate::parts::{has_bad_byte, text_len_behind};
 use std::alloc::{AllocFailed, Global};
 use thiserror::Error;
 
@@ -36,7 +36,7 @@ pub struct Token {
 /// Why a line has no tokens.
 #[derive(Clone, Copy, Debug, PartialEq, Eq, Error)]
 pub enum ScanError {
-    /// A byte outside of texts and comments is neither a tab nor from 0x20 to 0x7E.
+    /// A byte that stands before the line's comment, in a text or not, is neither a tab nor from 0x20 to 0x7E.
     #[error("a byte that may not stand in a line")]
     BadByte,
     /// There is no bad byte, and some token doesn't have the form of its kind, or a byte begins no token.

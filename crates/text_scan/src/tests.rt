@@ -2,18 +2,6 @@ use super::*;
 use crate::items::is_text;
 use std::test::Fail;
 
-/// The lines of the bytes as their numbers, starts and ends.
-fn places(rt: &HostRuntime, bytes: &[u8]) -> Result<Vec<(u32, usize, usize)>, Fail> {
-    let mut places = Vec::new(rt.alloc());
-    if bytes.len() > 100 {
-        return Ok(places);
-    }
-    for line in &lines(rt.alloc(), bytes)? {
-        places.push((line.number, line.start, line.end))?;
-    }
-    Ok(places)
-}
-
 /// The tokens of the line as a text: the first letter of each kind, its start and its end, or the error.
 fn scanned(rt: &HostRuntime, line: &[u8]) -> Result<String, Fail> {
     let mut text = String::new(rt.alloc());
@@ -39,54 +27,66 @@ fn scanned(rt: &HostRuntime, line: &[u8]) -> Result<String, Fail> {
 
 #[test]
 fn lines_end_where_they_should(rt: HostRuntime) -> Result<(), Fail> {
-    let ended = places(&rt, b"ab\r\n\r\r\n\nc\rd\n")?;
-    assert_eq!(rt;
-        ended.as_slice(),
-        [(1, 0, 2), (2, 4, 5), (3, 7, 7), (4, 8, 11)].as_slice()
-    );
-    let last = places(&rt, b"\na\r")?;
-    assert_eq!(rt; last.as_slice(), [(1, 0, 0), (2, 1, 3)].as_slice());
-    let empty = places(&rt, b"")?;
-    assert_eq!(rt; empty.len(), 0);
+    let rows = [
+        ("", 0, 0, 0),
+        ("\r\nab", 0, 2, 2),
+        ("a\r\r\nb", 2, 1, 1),
+        ("a\rb\nc\n", 3, 2, 1),
+        ("\n\n", 0, 1, 0),
+        ("a\r", 2, 0, 0),
+    ];
+    for (bytes, text, behind, next) in rows {
+        let mut lens = (0, 0, 0);
+        if let Some((line, rest)) = first_line(bytes.as_bytes()) {
+            lens = (line.len(), rest.len(), 0);
+            if let Some((second, _)) = first_line(rest) {
+                lens.2 = second.len();
+            }
+        }
+        assert_eq!(rt; lens, (text, behind, next), "at {bytes}");
+    }
     Ok(())
 }
 
 #[test]
 fn tokens_are_those_of_the_grammar(rt: HostRuntime) -> Result<(), Fail> {
     let component = "/aaaaaaaaaabbbbbbbbbbccccccccccddddddddddeeeeeeeeeeffffffffffgggg";
+    let longer = "/aaaaaaaaaabbbbbbbbbbccccccccccddddddddddeeeeeeeeeeffffffffffggggh";
     let rows = [
         ("", ""),
         (" \t # \"a\x01", ""),
-        ("write/f 0\"x\"", "w0-5 p5-7 n8-9 t9-12 "),
+        ("write/f 0\"x\"#\x7f", "w0-5 p5-7 n8-9 t9-12 "),
         ("_x-.9\t007(a)", "w0-5 n6-9 s9-10 w10-11 s11-12 "),
         ("[]=:,|&;+", "s0-1 s1-2 s2-3 s3-4 s4-5 s5-6 s6-7 s7-8 s8-9 "),
         ("\"a#b\"c#d", "t0-5 w5-6 "),
         ("\"a\\\"b\\\\\"\"\t\\n\\x0aF\"", "t0-8 t8-18 "),
         ("/ /a/b.c/..d", "p0-1 p2-12 "),
         (component, "p0-65 "),
+        (longer, "BadToken"),
     ];
     for (line, want) in rows {
         let got = scanned(&rt, line.as_bytes())?;
         assert_eq!(rt; got.as_str(), want, "at {line}");
     }
-    Ok(())
-}
-
-#[test]
-fn refusals_are_those_of_the_grammar(rt: HostRuntime) -> Result<(), Fail> {
-    let component = "/aaaaaaaaaabbbbbbbbbbccccccccccddddddddddeeeeeeeeeeffffffffffggggh";
-    for line in ["12ab", "-x", "a!", "//", "/a/", "/.", "/a/../b", component] {
-        let got = scanned(&rt, line.as_bytes())?;
-        assert_eq!(rt; got.as_str(), "BadToken", "at {line}");
-    }
     for line in [
-        "\"a", "\"a # b", "\"\\", "\"a\\\"", "\"\\q\"", "\"\\x4\"", "\"\x01\"", "\"a\x01",
-        "! # \x01",
+        "12ab", "-x", "a!", "//", "/a/", "/.", "/a/../b", "\"a", "\"a # b", "\"\\", "\"a\\\"",
+        "\"\\q\"", "\"\\x4\"", "! # \x01",
     ] {
         let got = scanned(&rt, line.as_bytes())?;
         assert_eq!(rt; got.as_str(), "BadToken", "at {line}");
     }
-    for line in ["\x7f", "a\r", "12ab \x01", "\"\\q\" \x1f", "//\x00#"] {
+    for line in [
+        "\x7f",
+        "a\r",
+        "12ab \x01",
+        "\"\\q\" \x1f",
+        "//\x00#",
+        "\"\x01\"",
+        "\"a\x01",
+        "\"\\\x01\"",
+        "\"a#\x01",
+        "\"é\"",
+    ] {
         let got = scanned(&rt, line.as_bytes())?;
         assert_eq!(rt; got.as_str(), "BadByte", "at {line}");
     }
@@ -94,7 +94,7 @@ fn refusals_are_those_of_the_grammar(rt: HostRuntime) -> Result<(), Fail> {
 }
 
 #[test]
-fn escapes_are_read(rt: HostRuntime) -> Result<(), Fail> {
+fn texts_are_read_at_any_length(rt: HostRuntime) -> Result<(), Fail> {
     let token = b"\"\\\\\\\"\\n\\x41\\xaF\t ~\"".as_slice();
     assert!(rt; is_text(token));
     if is_text(token) {
@@ -103,6 +103,22 @@ fn escapes_are_read(rt: HostRuntime) -> Result<(), Fail> {
             bytes.as_slice(),
             [92, 34, 10, 65, 175, 9, 32, 126].as_slice()
         );
+    }
+    let mut quotes = Vec::new(rt.alloc());
+    for _ in 0..65536 {
+        quotes.push(b'"')?;
+    }
+    let found = tokens(rt.alloc(), quotes.as_slice());
+    assert!(rt; found.is_ok_and(|found| found.len() == 32768));
+    let mut text = Vec::new(rt.alloc());
+    text.push(b'"')?;
+    for _ in 0..65534 {
+        text.push(b'a')?;
+    }
+    text.push(b'"')?;
+    assert!(rt; is_text(text.as_slice()));
+    if is_text(text.as_slice()) {
+        assert_eq!(rt; unescape(rt.alloc(), text.as_slice())?.len(), 65534);
     }
     Ok(())
 }
