@@ -1,1 +1,3 @@
 pub mod Inserting
+mod Placing
+mod SameTexts

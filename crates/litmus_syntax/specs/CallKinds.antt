@@ -18,9 +18,15 @@ abbrev pub is_mkdir : Call → Bool
 is_mkdir (call.Mkdir path) = true
 is_mkdir c = false
 
--- the setup has neither syncs nor marks
+-- a call that begins or commits a transaction
+abbrev pub is_boundary : Call → Bool
+is_boundary call.Begin = true
+is_boundary call.Commit = true
+is_boundary c = false
+
+-- the setup has no syncs, no marks and no transactions
 abbrev pub is_setup_call : Call → Bool
-is_setup_call c = not (is_sync c) && not (is_mark c)
+is_setup_call c = not (is_sync c) && not (is_mark c) && not (is_boundary c)
 
 -- the body makes no directories
 abbrev pub is_body_call : Call → Bool

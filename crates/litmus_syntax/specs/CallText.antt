@@ -18,3 +18,5 @@ call_text (call.Fsync path) = codes "fsync " ++ path_text path
 call_text (call.FsyncDir path) = codes "fsyncdir " ++ path_text path
 call_text call.Sync = codes "sync"
 call_text (call.Mark word) = codes "mark " ++ word
+call_text call.Begin = codes "begin"
+call_text call.Commit = codes "commit"

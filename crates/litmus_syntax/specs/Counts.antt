@@ -1,19 +1,21 @@
 -- What is counted of a predicate as its canonical text writes it.
-use Rattle.std.specs.Prelude.{ℕ, suc, ◌+◌, ◌≤◌, nat_lt, if◌then◌else◌, List, [], ◌∷◌, length, max, bytes_eq, codes}
+use Rattle.std.specs.Prelude.{ℕ, suc, ◌+◌, ◌≤◌, if◌then◌else◌, List, [], ◌∷◌, length, max, bytes_eq, codes}
 use Rattle.std.specs.List.{list_any}
 use Rattle.litmus_syntax.specs.declared.pred.Pred.{Pred, fold-Pred}
 use Rattle.litmus_syntax.specs.declared.pred.Pred.TheOpen.{Pred-F}
 use Rattle.litmus_syntax.specs.declared.pred.Pred.TheOpen as pred
+use Rattle.litmus_syntax.specs.declared.pred.Binding.{Binding}
+use Rattle.litmus_syntax.specs.declared.pred.Binding.TheVariants.{Disjunction, Conjunction, Operand}
+use Rattle.litmus_syntax.specs.Bindings.{is_looser}
 
 -- how many bytes its texts have together; how many of its words are one that an atom begins with, or is; how many
--- words `not` it has; the most parentheses that are open at one place; and how tightly it binds: 0 an `or`, 1 an
--- `and`, 2 everything else
+-- words `not` it has; the most parentheses that are open at one place; and how tightly it binds
 pub record Counts : Type 0 where
   pub texts : ℕ
   pub words : ℕ
   pub nots : ℕ
   pub depth : ℕ
-  pub binding : ℕ
+  pub binding : Binding
 
 -- the words that begin an atom, or are one
 abbrev pub atom_words : List (List ℕ)
@@ -26,21 +28,21 @@ counted words word = if list_any (bytes_eq word) words then 1 else 0
 
 -- the counts of an atom: it has one word at least, and it opens one parenthesis
 abbrev pub atom_counts : ℕ → Counts
-atom_counts texts = record { texts = texts; words = 1; nots = 0; depth = 1; binding = 2 }
+atom_counts texts = record { texts = texts; words = 1; nots = 0; depth = 1; binding = Operand }
 
 -- `true` and `false` have no parenthesis
 abbrev pub constant_counts : Counts
-constant_counts = record { texts = 0; words = 1; nots = 0; depth = 0; binding = 2 }
+constant_counts = record { texts = 0; words = 1; nots = 0; depth = 0; binding = Operand }
 
 -- an atom with a word in it, as a key
 abbrev pub named_counts : List ℕ → Counts
-named_counts word = record { texts = 0; words = suc (counted atom_words word); nots = counted (codes "not" ∷ []) word; depth = 1; binding = 2 }
+named_counts word = record { texts = 0; words = suc (counted atom_words word); nots = counted (codes "not" ∷ []) word; depth = 1; binding = Operand }
 
 -- the parentheses that are open in an operand whose place asks for this binding
-abbrev pub operand_depth : ℕ → Counts → ℕ
-operand_depth least part = if nat_lt part.binding least then suc part.depth else part.depth
+abbrev pub operand_depth : Binding → Counts → ℕ
+operand_depth least part = if is_looser part.binding least then suc part.depth else part.depth
 
-abbrev pub joined_counts : ℕ → ℕ → ℕ → Counts → Counts → Counts
+abbrev pub joined_counts : Binding → Binding → Binding → Counts → Counts → Counts
 joined_counts binding least_left least_right left right =
     record {
       texts = left.texts + right.texts;
@@ -60,17 +62,17 @@ counts_of (pred.ContentIs path text) = atom_counts (length text)
 counts_of (pred.BytesAre path at text) = atom_counts (length text)
 counts_of (pred.AttrIs path key value) = named_counts key
 counts_of (pred.Seen word) = named_counts word
-counts_of (pred.Not inner) = record { texts = inner.texts; words = inner.words; nots = suc inner.nots; depth = operand_depth 2 inner; binding = 2 }
-counts_of (pred.And left right) = joined_counts 1 1 2 left right
-counts_of (pred.Or left right) = joined_counts 0 0 1 left right
+counts_of (pred.Not inner) = record { texts = inner.texts; words = inner.words; nots = suc inner.nots; depth = operand_depth Operand inner; binding = Operand }
+counts_of (pred.And left right) = joined_counts Conjunction Conjunction Operand left right
+counts_of (pred.Or left right) = joined_counts Disjunction Disjunction Conjunction left right
 
 abbrev pub counts : Pred → Counts
 counts = fold-Pred Counts counts_of
 
--- a predicate that a question may ask: its texts have 512 bytes at most, it has at most 256 words that atoms begin with
+-- a predicate that a question may ask: its texts have 4,096 bytes at most, it has at most 256 words that atoms begin with
 -- and at most 256 words `not`, and at no place are more than 64 parentheses open
 pub record IsShortPred (p : Pred) : Type 0 where
-  pub texts : (counts p).texts ≤ 512
+  pub texts : (counts p).texts ≤ 4096
   pub words : (counts p).words ≤ 256
   pub nots : (counts p).nots ≤ 256
   pub depth : (counts p).depth ≤ 64

@@ -15,24 +15,27 @@ is_formed_path path = list_all is_component path
 abbrev pub is_byte_text : List ℕ → Bool
 is_byte_text text = list_all (λ b. nat_lt b 256) text
 
-abbrev pub is_number : ℕ → Bool
-is_number n = nat_lt n (2 ^ 32)
+-- a number that has 32 bits at most
+abbrev pub is_narrow : ℕ → Bool
+is_narrow n = nat_lt n (2 ^ 32)
 
 -- what the call is called on has its forms
 abbrev pub is_formed_call : Call → Bool
 is_formed_call (call.Mkdir path) = is_formed_path path
 is_formed_call (call.Create path) = is_formed_path path
-is_formed_call (call.Write path at text) = is_formed_path path && is_number at && is_byte_text text
+is_formed_call (call.Write path at text) = is_formed_path path && is_narrow at && is_byte_text text
 is_formed_call (call.Append path text) = is_formed_path path && is_byte_text text
-is_formed_call (call.Truncate path size) = is_formed_path path && is_number size
+is_formed_call (call.Truncate path size) = is_formed_path path && is_narrow size
 is_formed_call (call.Link from to) = is_formed_path from && is_formed_path to
 is_formed_call (call.Unlink path) = is_formed_path path
 is_formed_call (call.Rename from to) = is_formed_path from && is_formed_path to
-is_formed_call (call.Attr path key value) = is_formed_path path && is_word key && is_number value
+is_formed_call (call.Attr path key value) = is_formed_path path && is_word key && is_narrow value
 is_formed_call (call.Fsync path) = is_formed_path path
 is_formed_call (call.FsyncDir path) = is_formed_path path
 is_formed_call call.Sync = true
 is_formed_call (call.Mark word) = is_word word
+is_formed_call call.Begin = true
+is_formed_call call.Commit = true
 
 -- an atom's parts have their forms, and a range of `bytes` ends at 65,536 at most; a connective's parts are formed
 abbrev pub is_formed_of : Pred-F Bool → Bool
@@ -40,10 +43,10 @@ is_formed_of pred.True = true
 is_formed_of pred.False = true
 is_formed_of (pred.Exists path) = is_formed_path path
 is_formed_of (pred.Same left right) = is_formed_path left && is_formed_path right
-is_formed_of (pred.SizeIs path size) = is_formed_path path && is_number size
+is_formed_of (pred.SizeIs path size) = is_formed_path path && is_narrow size
 is_formed_of (pred.ContentIs path text) = is_formed_path path && is_byte_text text
 is_formed_of (pred.BytesAre path at text) = is_formed_path path && is_byte_text text && nat_le (at + length text) 65536
-is_formed_of (pred.AttrIs path key value) = is_formed_path path && is_word key && is_number value
+is_formed_of (pred.AttrIs path key value) = is_formed_path path && is_word key && is_narrow value
 is_formed_of (pred.Seen word) = is_word word
 is_formed_of (pred.Not inner) = inner
 is_formed_of (pred.And left right) = left && right

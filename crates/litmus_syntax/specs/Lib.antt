@@ -1,3 +1,4 @@
+pub mod Bindings
 pub mod CallKinds
 pub mod CallText
 pub mod Counts
@@ -5,6 +6,8 @@ pub mod Forms
 pub mod Limits
 pub mod LitmusText
 pub mod PredText
-pub mod Test
+pub mod Same
 pub mod Sites
+pub mod Test
 pub mod Texts
+pub mod Transactions

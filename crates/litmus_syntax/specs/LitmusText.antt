@@ -1,5 +1,5 @@
 -- The canonical text of a litmus test.
-use Rattle.std.specs.Prelude.{ℕ, Bool, List, ◌++◌, codes, decimal, if◌then◌else◌}
+use Rattle.std.specs.Prelude.{ℕ, Bool, List, [], ◌++◌, ◌==◌, codes, decimal, if◌then◌else◌}
 use Rattle.std.specs.List.{flat_map}
 use Rattle.litmus_syntax.specs.declared.call.Step.{Step}
 use Rattle.litmus_syntax.specs.Test.{Test}
@@ -18,11 +18,20 @@ question_word want = if want then codes "exists" else codes "always"
 abbrev pub question_line : Test → List ℕ
 question_line l = question_word l.want ++ codes ": " ++ pred_text l.pred ++ codes "\n"
 
--- the head, the block, the setup, the body and the question, each line with its line feed
+-- the head; the first version has no number
+abbrev pub head_line : Test → List ℕ
+head_line l = codes "litmus " ++ l.name ++ (if l.version == 2 then codes " 2" else []) ++ codes "\n"
+
+-- the block, and in the second version the sector
+abbrev pub sizes_lines : Test → List ℕ
+sizes_lines l =
+    codes "block " ++ decimal l.block ++ codes "\n"
+    ++ (if l.version == 2 then codes "sector " ++ decimal l.sector ++ codes "\n" else [])
+
+-- the head, the block, the sector, the setup, the body and the question, each line with its line feed
 abbrev pub litmus_text : Test → List ℕ
 litmus_text l =
-    codes "litmus " ++ l.name ++ codes "\n"
-    ++ codes "block " ++ decimal l.block ++ codes "\n"
+    head_line l ++ sizes_lines l
     ++ codes "setup:\n" ++ flat_map step_line l.setup
     ++ codes "body:\n" ++ flat_map step_line l.body
     ++ question_line l

@@ -1,22 +1,25 @@
 -- How predicates are written, with parentheses only where they are needed.
-use Rattle.std.specs.Prelude.{ℕ, List, [], ◌∷◌, ◌++◌, codes, decimal, nat_lt, if◌then◌else◌}
+use Rattle.std.specs.Prelude.{ℕ, List, [], ◌∷◌, ◌++◌, codes, decimal, if◌then◌else◌}
 use Rattle.litmus_syntax.specs.declared.pred.Pred.{Pred, fold-Pred}
 use Rattle.litmus_syntax.specs.declared.pred.Pred.TheOpen.{Pred-F}
 use Rattle.litmus_syntax.specs.declared.pred.Pred.TheOpen as pred
+use Rattle.litmus_syntax.specs.declared.pred.Binding.{Binding}
+use Rattle.litmus_syntax.specs.declared.pred.Binding.TheVariants.{Disjunction, Conjunction, Operand}
+use Rattle.litmus_syntax.specs.Bindings.{is_looser}
 use Rattle.litmus_syntax.specs.Texts.{path_text, quoted}
 
--- a predicate as it is written, and how tightly it binds: 0 an `or`, 1 an `and`, 2 everything else
+-- a predicate as it is written, and how tightly it binds
 pub record Written : Type 0 where
   pub text : List ℕ
-  pub binding : ℕ
+  pub binding : Binding
 
 -- an operand whose place asks for this binding: one that binds less tightly stands in parentheses
-abbrev pub operand : ℕ → Written → List ℕ
-operand least part = if nat_lt part.binding least then 40 ∷ part.text ++ 41 ∷ [] else part.text
+abbrev pub operand : Binding → Written → List ℕ
+operand least part = if is_looser part.binding least then 40 ∷ part.text ++ 41 ∷ [] else part.text
 
 -- an atom, `true` and `false` too
 abbrev pub tight : List ℕ → Written
-tight text = record { text = text; binding = 2 }
+tight text = record { text = text; binding = Operand }
 
 -- one atom, or a connective over its written operands; `and` and `or` group to the left
 abbrev pub written_of : Pred-F Written → Written
@@ -29,9 +32,9 @@ written_of (pred.ContentIs path text) = tight (codes "content(" ++ path_text pat
 written_of (pred.BytesAre path at text) = tight (codes "bytes(" ++ path_text path ++ codes ", " ++ decimal at ++ codes ") = " ++ quoted text)
 written_of (pred.AttrIs path key value) = tight (codes "attr(" ++ path_text path ++ codes ", " ++ key ++ codes ") = " ++ decimal value)
 written_of (pred.Seen word) = tight (codes "seen(" ++ word ++ codes ")")
-written_of (pred.Not inner) = tight (codes "not " ++ operand 2 inner)
-written_of (pred.And left right) = record { text = operand 1 left ++ codes " and " ++ operand 2 right; binding = 1 }
-written_of (pred.Or left right) = record { text = operand 0 left ++ codes " or " ++ operand 1 right; binding = 0 }
+written_of (pred.Not inner) = tight (codes "not " ++ operand Operand inner)
+written_of (pred.And left right) = record { text = operand Conjunction left ++ codes " and " ++ operand Operand right; binding = Conjunction }
+written_of (pred.Or left right) = record { text = operand Disjunction left ++ codes " or " ++ operand Conjunction right; binding = Disjunction }
 
 abbrev pub written : Pred → Written
 written = fold-Pred Written written_of

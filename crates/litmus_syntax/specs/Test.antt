@@ -1,5 +1,6 @@
--- What a litmus test is to its readers: its name, its block size, the calls of its setup and of its body with their
--- lines, and its question. `want` tells `exists:` from `always:`.
+-- What a litmus test is to its readers: its name, the size of a block, the calls of its setup and of its body with their
+-- lines, its question, the version of the grammar that it is written in, and the size of a sector. `want` tells `exists:`
+-- from `always:`.
 use Rattle.std.specs.Prelude.{ℕ, Bool, List}
 use Rattle.litmus_syntax.specs.declared.call.Step.{Step}
 use Rattle.litmus_syntax.specs.declared.pred.Pred.{Pred}
@@ -12,3 +13,5 @@ pub record Test : Type 0 where
   pub want : Bool
   pub pred : Pred
   pub pred_line : ℕ
+  pub version : ℕ
+  pub sector : ℕ

@@ -35,6 +35,10 @@ pub enum Call {
     Sync,
     /// An output that somebody saw, as a reply over the network.
     Mark { word: Text },
+    /// Begins a transaction: what its calls change reaches the disk whole or not at all.
+    Begin,
+    /// Commits the transaction that is open.
+    Commit,
 }
 
 /// A call with the line that it stands in, counted from 1.

@@ -75,6 +75,8 @@ pub fn copy_call(alloc: Global, call: &Call) -> Result<Call, AllocError>
         Call::Mark { word } => Call::Mark {
             word: copy_text(alloc, word.as_slice())?,
         },
+        Call::Begin => Call::Begin,
+        Call::Commit => Call::Commit,
     };
     Ok(copy)
 }

@@ -8,6 +8,7 @@
 
 mod call;
 mod copying;
+mod laws;
 mod litmus;
 mod pred;
 mod printing;
@@ -15,7 +16,8 @@ mod site;
 
 pub use call::{Call, Path, Step, Text};
 pub use copying::{copy_call, copy_path, copy_pred, copy_text};
+pub use laws::{inserted_within_limits, same_text};
 pub use litmus::Litmus;
-pub use pred::Pred;
+pub use pred::{Binding, Pred};
 pub use printing::{print, push_number, push_path};
 pub use site::{Site, body_with_sites, insert};

@@ -17,6 +17,8 @@ pub struct Litmus {
     want: bool,
     pred: Pred,
     pred_line: u32,
+    version: u32,
+    sector: u32,
 }
 
 impl Model for Litmus {
@@ -29,9 +31,9 @@ impl Model for Litmus {
 
     ghost coded = { Prim.hlevel (codes, whole.the_row.coded) };
 
-    ghost view = { λ l. record { name = l.name; block = l.block; setup = l.setup; body = l.body; want = l.want; pred = l.pred; pred_line = l.pred_line } };
+    ghost view = { λ l. record { name = l.name; block = l.block; setup = l.setup; body = l.body; want = l.want; pred = l.pred; pred_line = l.pred_line; version = l.version; sector = l.sector } };
 
-    ghost invariant = { λ l. IsWithinLimits (record { name = l.name; block = l.block; setup = l.setup; body = l.body; want = l.want; pred = l.pred; pred_line = l.pred_line }) };
+    ghost invariant = { λ l. IsWithinLimits (record { name = l.name; block = l.block; setup = l.setup; body = l.body; want = l.want; pred = l.pred; pred_line = l.pred_line; version = l.version; sector = l.sector }) };
 }
 
 impl Litmus {
@@ -44,9 +46,11 @@ impl Litmus {
         want: bool,
         pred: Pred,
         pred_line: u32,
+        version: u32,
+        sector: u32,
     ) -> Litmus
-        requires { IsWithinLimits (record { name = name; block = block; setup = setup; body = body; want = want; pred = pred; pred_line = pred_line }) }
-        ensures { result ≡ record { name = name; block = block; setup = setup; body = body; want = want; pred = pred; pred_line = pred_line } }
+        requires { IsWithinLimits (record { name = name; block = block; setup = setup; body = body; want = want; pred = pred; pred_line = pred_line; version = version; sector = sector }) }
+        ensures { result ≡ record { name = name; block = block; setup = setup; body = body; want = want; pred = pred; pred_line = pred_line; version = version; sector = sector } }
     {
         Litmus {
             name,
@@ -56,7 +60,24 @@ impl Litmus {
             want,
             pred,
             pred_line,
+            version,
+            sector,
         }
+    }
+
+    /// Makes the test one of the second version. Everything else stays: in the second version too, a test without a
+    /// sector of its own has sectors as large as blocks.
+    pub fn upgrade(&mut self)
+        ensures { self.new ≡ record self.old { version = 2 } }
+    {
+        self.version = 2;
+    }
+
+    /// Each test keeps to the forms and limits of a litmus file: this is known wherever there is a test.
+    pub fn keeps_limits(&self)
+        ensures { IsWithinLimits self.now }
+    {
+        let _version = self.version;
     }
 
     /// The word behind `litmus`.
@@ -80,10 +101,9 @@ impl Litmus {
         self.setup.as_slice()
     }
 
-    /// The calls in which the crash may come. What the type holds is known of the test.
+    /// The calls in which the crash may come.
     pub fn body(&self) -> &[Step]
-        ensures body { result.now ≡ self.now.body }
-        ensures limits { IsWithinLimits self.now }
+        ensures { result.now ≡ self.now.body }
     {
         self.body.as_slice()
     }
@@ -108,5 +128,20 @@ impl Litmus {
         ensures { result ≡ self.now.pred_line }
     {
         self.pred_line
+    }
+
+    /// The version of the grammar: 1, or 2, in which there are transactions and sectors.
+    pub fn version(&self) -> u32
+        ensures { result ≡ self.now.version }
+    {
+        self.version
+    }
+
+    /// The size of a sector, in bytes, at most that of a block: writes reach the disk in pieces that end at its
+    /// multiples, too.
+    pub fn sector(&self) -> u32
+        ensures { result ≡ self.now.sector }
+    {
+        self.sector
     }
 }

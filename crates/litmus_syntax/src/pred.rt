@@ -1,5 +1,38 @@
+ghost use Rattle.std.specs.Prelude.{◌≡◌};
+ghost use Rattle.litmus_syntax.specs.Bindings.{tightness, is_looser};
+
 use crate::call::{Path, Text};
 use sqlite_items::Boxed;
+
+/// How tightly a predicate binds, the loosest first.
+#[derive(Clone, Copy, Debug, Drop)]
+pub enum Binding {
+    /// An `or`.
+    Disjunction,
+    /// An `and`.
+    Conjunction,
+    /// Everything else: an atom, `true`, `false` and a `not`.
+    Operand,
+}
+
+impl Binding {
+    fn tightness(self) -> u8
+        ensures { result ≡ tightness self }
+    {
+        match self {
+            Binding::Disjunction => 0,
+            Binding::Conjunction => 1,
+            Binding::Operand => 2,
+        }
+    }
+
+    /// Whether this one binds less tightly than the other.
+    pub fn is_looser(self, other: Binding) -> bool
+        ensures { result ≡ is_looser self other }
+    {
+        self.tightness() < other.tightness()
+    }
+}
 
 /// What is asked of the state that a crash left. An atom on a path that holds no file is false.
 #[derive(Debug, Drop)]

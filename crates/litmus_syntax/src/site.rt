@@ -1,5 +1,5 @@
 ghost use Rattle.std.specs.Prelude.{◌≡◌, ◌++◌, IfOk, OnOk};
-ghost use Rattle.litmus_syntax.specs.Sites.{AreSyncs, inserted_at, with_sites};
+ghost use Rattle.litmus_syntax.specs.Sites.{AreSyncs, StandOutside, inserted_at, with_sites};
 
 use crate::call::{Call, Step};
 use crate::copying::{copy_call, copy_pred, copy_text};
@@ -68,9 +68,10 @@ pub fn body_with_sites(
 
 /// The test whose body has each site's call behind the body call of its number. All else is as in this test. Sites of
 /// one body call are inserted in their order, and an inserted call gets the line of the call before it. A site behind a
-/// call that the body lacks is inserted nowhere.
+/// call that the body lacks is inserted nowhere. No site may stand where a transaction is open.
 pub fn insert(alloc: Global, litmus: &Litmus, sites: &[Site]) -> Result<Litmus, AllocError>
-    requires { AreSyncs sites.now }
+    requires syncs { AreSyncs sites.now }
+    requires outside { StandOutside litmus.now.body sites.now }
     ensures { IfOk result (λ l. l ≡ record litmus.now { body = with_sites 1 litmus.now.body sites.now }) }
 {
     let name = copy_text(alloc, litmus.name().as_slice())?;
@@ -79,5 +80,18 @@ pub fn insert(alloc: Global, litmus: &Litmus, sites: &[Site]) -> Result<Litmus, 
     let pred = copy_pred(alloc, litmus.pred())?;
     let block = litmus.block();
     let want = litmus.want();
-    Ok(Litmus::new(name, block, setup, body, want, pred, litmus.pred_line()))
+    let version = litmus.version();
+    let sector = litmus.sector();
+    litmus.keeps_limits();
+    Ok(Litmus::new(
+        name,
+        block,
+        setup,
+        body,
+        want,
+        pred,
+        litmus.pred_line(),
+        version,
+        sector,
+    ))
 }

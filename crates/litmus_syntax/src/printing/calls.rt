@@ -92,6 +92,8 @@ pub fn push_call(out: &mut Vec<u8>, call: &Call) -> Result<(), AllocError>
             out.extend_from_slice(b"mark ")?;
             out.extend_from_slice(word.as_slice())?;
         }
+        Call::Begin => out.extend_from_slice(b"begin")?,
+        Call::Commit => out.extend_from_slice(b"commit")?,
     }
     Ok(())
 }

@@ -3,18 +3,18 @@ ghost use Rattle.litmus_syntax.specs.Texts.{path_text, quoted};
 ghost use Rattle.litmus_syntax.specs.PredText.{pred_text, written, operand};
 
 use crate::call::{Path, Text};
-use crate::pred::Pred;
+use crate::pred::{Binding, Pred};
 use crate::printing::tokens::{push_number, push_path, push_quoted};
 use std::alloc::AllocError;
 
-/// How tightly a predicate binds: 0 an `or`, 1 an `and`, 2 everything else.
-fn binding(pred: &Pred) -> u8
+/// How tightly a predicate binds.
+fn binding(pred: &Pred) -> Binding
     ensures { result ≡ (written pred.now).binding }
 {
     match pred {
-        Pred::Or { .. } => 0,
-        Pred::And { .. } => 1,
-        _ => 2,
+        Pred::Or { .. } => Binding::Disjunction,
+        Pred::And { .. } => Binding::Conjunction,
+        _ => Binding::Operand,
     }
 }
 
@@ -97,10 +97,10 @@ fn push_seen(out: &mut Vec<u8>, word: &Text) -> Result<(), AllocError>
 
 /// Appends an operand whose place asks for this binding.
 #[cycle(push_pred)]
-fn push_operand(out: &mut Vec<u8>, least: u8, pred: &Pred) -> Result<(), AllocError>
+fn push_operand(out: &mut Vec<u8>, least: Binding, pred: &Pred) -> Result<(), AllocError>
     ensures { OnOk result (out.new.items ≡ out.old.items ++ operand least (written pred.now)) }
 {
-    if binding(pred) < least {
+    if binding(pred).is_looser(least) {
         out.push(b'(')?;
         push_pred(out, pred)?;
         out.push(b')')?;
@@ -127,17 +127,17 @@ pub fn push_pred(out: &mut Vec<u8>, pred: &Pred) -> Result<(), AllocError>
         Pred::Seen { word } => push_seen(out, word)?,
         Pred::Not { inner } => {
             out.extend_from_slice(b"not ")?;
-            push_operand(out, 2, inner.get())?;
+            push_operand(out, Binding::Operand, inner.get())?;
         }
         Pred::And { left, right } => {
-            push_operand(out, 1, left.get())?;
+            push_operand(out, Binding::Conjunction, left.get())?;
             out.extend_from_slice(b" and ")?;
-            push_operand(out, 2, right.get())?;
+            push_operand(out, Binding::Operand, right.get())?;
         }
         Pred::Or { left, right } => {
-            push_operand(out, 0, left.get())?;
+            push_operand(out, Binding::Disjunction, left.get())?;
             out.extend_from_slice(b" or ")?;
-            push_operand(out, 1, right.get())?;
+            push_operand(out, Binding::Conjunction, right.get())?;
         }
     }
     Ok(())

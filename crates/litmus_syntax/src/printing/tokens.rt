@@ -6,7 +6,7 @@ use crate::call::{Path, Text};
 use itoa::Buffer;
 use std::alloc::AllocError;
 
-/// Appends a number in decimal digits.
+/// Appends a number in decimal digits. After want of memory the bytes are open.
 pub fn push_number(out: &mut Vec<u8>, number: u32) -> Result<(), AllocError>
     ensures { OnOk result (out.new.items ≡ out.old.items ++ decimal number) }
 {
@@ -26,7 +26,7 @@ fn push_parts(out: &mut Vec<u8>, parts: &[Text]) -> Result<(), AllocError>
     Ok(())
 }
 
-/// Appends a path.
+/// Appends a path. After want of memory the bytes are open.
 pub fn push_path(out: &mut Vec<u8>, path: &Path) -> Result<(), AllocError>
     ensures { OnOk result (out.new.items ≡ out.old.items ++ path_text path.now) }
 {
