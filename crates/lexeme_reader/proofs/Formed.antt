@@ -1,8 +1,9 @@
 -- What a token says has the form of its kind.
-use Rattle.std.proofs.Common.{◌≡◌, ℕ, ◌^◌, ◌<◌, true, not, ◌&&◌, ◌==◌, List, [], ◌∷◌, Some, min, nat_lt, IsTrue, refl, sym, ◌∙◌, ap, arith}
+use Rattle.std.proofs.Common.{◌≡◌, ℕ, ◌<◌, Bool, true, false, not, ◌&&◌, ◌==◌, List, [], ◌∷◌, Some, None, nat_lt, IsTrue, refl, sym, ◌∙◌, ap, arith}
+use Rattle.std.specs.Prelude.{if◌then◌else◌}
 use Rattle.std.specs.List.{All, list_all}
 use Rattle.std.proofs.lemmas.List.Elements.{All-nil, All-cons, All-head, All-tail}
-use Rattle.std.proofs.lemmas.Bool.{and_parts, le-leb, lt-ltb, and_from}
+use Rattle.std.proofs.lemmas.Bool.{and_parts, lt-ltb, and_from}
 use Rattle.std.proofs.lemmas.Bool.Decides.{nat_tests}
 use Rattle.text_scan.specs.declared.scanning.TokenKind.{TokenKind}
 use Rattle.text_scan.specs.declared.scanning.TokenKind.TheVariants as kind
@@ -11,7 +12,9 @@ use Rattle.text_scan.specs.Bytes.{is_sign, is_hex_digit, is_line_byte}
 use Rattle.text_scan.specs.Forms.{components, is_component, is_one_sign, HasForm}
 use Rattle.text_scan.specs.Items.{escaped, hex_value, IsItem, plain, short, hex, Spells}
 use Rattle.text_scan.specs.Tokens.{token_text}
+use Rattle.litmus_syntax.specs.Forms.{is_narrow}
 use Rattle.lexeme_reader.specs.declared.reading.Lexeme.{Lexeme}
+use Rattle.lexeme_reader.specs.declared.reading.Lexeme.TheVariants as says
 use Rattle.lexeme_reader.specs.Lexemes.{digits_value, Says, AreSaid, is_formed, AreLexemes}
 use Rattle.lexeme_reader.proofs.Tokens.{HasItsForm, tokens_formed}
 
@@ -46,11 +49,14 @@ sign_formed (b ∷ bs) sign e h =
     let same : b ≡ sign = cc in
     ap is_sign (sym same) ∙ (and_parts (is_sign b) _ h).0
 
+number_formed : (n : ℕ) (narrow : Bool) → is_narrow n ≡ narrow → IsTrue (is_formed (says.Number (if narrow then Some n else None)))
+number_formed n true e = e
+number_formed n false e = refl
+
 -- what a token of this kind and form says
 pub says_formed : (k : TokenKind) (text : List ℕ) (l : Lexeme) → HasForm k text → Says k text l → IsTrue (is_formed l)
 says_formed kind.Word text l h s = ap is_formed s ∙ h
-says_formed kind.Number text l h s =
-    ap is_formed s ∙ le-leb (min (digits_value text) (2 ^ 32)) (2 ^ 32) (omega arith)
+says_formed kind.Number text l h s = ap is_formed s ∙ number_formed (digits_value text) (is_narrow (digits_value text)) refl
 says_formed kind.PathToken text l h s = ap is_formed s ∙ path_formed text h
 says_formed kind.TextToken text l h s = ap is_formed s.2 ∙ spelled_bytes s.1.0 s.0 s.1.2
 says_formed kind.Sign text l h s = ap is_formed s.2 ∙ sign_formed text s.0 s.1 h

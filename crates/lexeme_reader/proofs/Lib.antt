@@ -1,3 +1,4 @@
 pub mod Formed
 pub mod Names
+pub mod Sayings
 pub mod Tokens

@@ -1,5 +1,5 @@
 -- What the tokens of a line say: words, numbers, paths, texts and signs.
-use Rattle.std.specs.Prelude.{◌≡◌, ℕ, ◌+◌, ◌-◌, ◌*◌, ◌^◌, Bool, nat_le, List, [], ◌∷◌, fold, min, ⊤}
+use Rattle.std.specs.Prelude.{◌≡◌, ℕ, ◌+◌, ◌-◌, ◌*◌, Bool, true, if◌then◌else◌, List, [], ◌∷◌, Option, Some, None, fold, ⊤}
 use Rattle.text_scan.specs.declared.scanning.TokenKind.{TokenKind}
 use Rattle.text_scan.specs.declared.scanning.TokenKind.TheVariants as kind
 use Rattle.text_scan.specs.declared.scanning.Token.{Token}
@@ -7,7 +7,7 @@ use Rattle.text_scan.specs.Bytes.{is_sign}
 use Rattle.text_scan.specs.Forms.{components, is_word}
 use Rattle.text_scan.specs.Items.{IsTextOf}
 use Rattle.text_scan.specs.Tokens.{IsTokens, token_text}
-use Rattle.litmus_syntax.specs.Forms.{is_formed_path, is_byte_text}
+use Rattle.litmus_syntax.specs.Forms.{is_narrow, is_formed_path, is_byte_text}
 use Rattle.lexeme_reader.specs.declared.reading.Lexeme.{Lexeme}
 use Rattle.lexeme_reader.specs.declared.reading.Lexeme.TheVariants as says
 
@@ -15,10 +15,14 @@ use Rattle.lexeme_reader.specs.declared.reading.Lexeme.TheVariants as says
 abbrev pub digits_value : List ℕ → ℕ
 digits_value digits = fold (λ value digit. 10 * value + (digit - 48)) 0 digits
 
--- what a token of this kind and with these bytes says; numbers above 2^32 - 1 aren't told apart
+-- a number that has 32 bits at most, and nothing for a wider one
+abbrev pub narrowed : ℕ → Option ℕ
+narrowed n = if is_narrow n then Some n else None
+
+-- what a token of this kind and with these bytes says; numbers that are too wide aren't told apart
 abbrev pub Says : TokenKind → List ℕ → Lexeme → Type 0
 Says kind.Word text lexeme = lexeme ≡ says.Word text
-Says kind.Number text lexeme = lexeme ≡ says.Number (min (digits_value text) (2 ^ 32))
+Says kind.Number text lexeme = lexeme ≡ says.Number (narrowed (digits_value text))
 Says kind.PathToken text lexeme = lexeme ≡ says.Path (components text)
 Says kind.TextToken text lexeme = (bytes : List ℕ) × IsTextOf text bytes × (lexeme ≡ says.Text bytes)
 Says kind.Sign text lexeme = (sign : ℕ) × (text ≡ sign ∷ []) × (lexeme ≡ says.Sign sign)
@@ -32,7 +36,8 @@ AreSaid line _ _ = ⊥
 -- a lexeme has the form of its kind; a sign is one byte
 abbrev pub is_formed : Lexeme → Bool
 is_formed (says.Word word) = is_word word
-is_formed (says.Number n) = nat_le n (2 ^ 32)
+is_formed (says.Number (Some n)) = is_narrow n
+is_formed (says.Number None) = true
 is_formed (says.Path path) = is_formed_path path
 is_formed (says.Text bytes) = is_byte_text bytes
 is_formed (says.Sign sign) = is_sign sign

@@ -4,9 +4,11 @@
 //! of bytes. The tokens are those of `text_scan`.
 #![tactic(auto)]
 
+mod laws;
 mod reading;
 
-pub use reading::{Lexeme, lexemes, narrow};
+pub use laws::{one_saying, what_is_said_is_formed};
+pub use reading::{Lexeme, lexemes};
 
 #[cfg(test)]
 mod tests;

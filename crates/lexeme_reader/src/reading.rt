@@ -1,49 +1,41 @@
-ghost use Rattle.std.specs.Prelude.{◌≡◌, ◌^◌, ◌<◌, ◌≤◌, ◌==◌, [], ◌∷◌, length, min, All, IfOk, IfErr, IsTrue, MatchOption};
+ghost use Rattle.std.specs.Prelude.{◌≡◌, ◌<◌, ◌≤◌, ◌==◌, [], ◌∷◌, length, All, IfOk, IfErr, IsTrue, MatchOption};
 ghost use Rattle.std.specs.List.{slice_split};
 ghost use Rattle.text_scan.specs.Forms.{is_number, is_path, components, HasForm};
 ghost use Rattle.text_scan.specs.Faults.{IsFault};
 ghost use Rattle.text_scan.specs.Tokens.{token_text};
-ghost use Rattle.lexeme_reader.specs.Lexemes.{digits_value, Says, AreSaid, AreLexemes, is_formed};
+ghost use Rattle.lexeme_reader.specs.Lexemes.{digits_value, narrowed, Says, AreSaid, AreLexemes, is_formed};
 
 use fer_list::Seq;
 use litmus_syntax::{Path, Text};
 use std::alloc::{AllocError, Global};
 use text_scan::{ScanError, Token, TokenKind, tokens, unescape};
 
+/// The least number that is too wide.
+const WIDE: u64 = 1 << 32;
+
 /// What a token says.
 #[derive(Debug, Drop)]
 pub enum Lexeme {
     Word(Text),
-    /// The value of a number. Each one above 2^32 - 1 counts as 2^32.
-    Number(u64),
+    /// The value of a number, or `None` where it is wider than 32 bits.
+    Number(Option<u32>),
     Path(Path),
     /// The bytes that a text stands for.
     Text(Text),
     Sign(u8),
 }
 
-/// A number that is in range.
-pub fn narrow(number: u64) -> u32
-    requires { number < 2 ^ 32 }
-    ensures { result ≡ number }
-{
-    number as u32
-}
-
-/// The number that each value above 2^32 - 1 counts as.
-const WIDE: u64 = 1 << 32;
-
-/// The number that the digits write.
-fn number_value(digits: &[u8]) -> u64
+/// The number that the digits write, unless it is wider than 32 bits.
+fn number_value(digits: &[u8]) -> Option<u32>
     requires { IsTrue (is_number digits.now) }
-    ensures { result ≡ min (digits_value digits.now) (2 ^ 32) }
+    ensures { result ≡ narrowed (digits_value digits.now) }
 {
     let mut value = 0;
     for digit in digits {
         let next = 10 * value + u64::from(*digit - b'0');
         value = next.min(WIDE);
     }
-    value
+    u32::try_from(value).ok()
 }
 
 /// The first name of some that stand between slashes, and what stands behind the slash that ends it. Nothing where
