@@ -1,5 +1,5 @@
 -- Tokens begin with one atom at most, and it is one of the grammar.
-use Rattle.std.proofs.Common.{◌≡◌, ℕ, if◌then◌else◌, List, [], ◌∷◌, ◌++◌, bytes_eq, codes, refl, sym, ap, ◌∙◌}
+use Rattle.std.proofs.Common.{◌≡◌, ℕ, if◌then◌else◌, List, [], ◌∷◌, ◌++◌, Some, bytes_eq, codes, refl, sym, ap, ◌∙◌}
 use Rattle.litmus_syntax.specs.declared.pred.Pred.{Pred}
 use Rattle.lexeme_reader.specs.declared.reading.Lexeme.{Lexeme}
 use Rattle.lexeme_reader.specs.declared.reading.Lexeme.TheVariants.{Word, Number, Path, Text, Sign}
@@ -75,12 +75,12 @@ atom_front name.True tokens p r a = ([], a.1, rw a.0 (IsAtom.yes refl))
 atom_front name.False tokens p r a = ([], a.1, rw a.0 (IsAtom.no refl))
 atom_front name.Exists tokens p r a = (Sign 40 ∷ Path a.0 ∷ Sign 41 ∷ [], a.2, rw a.1 (IsAtom.exists a.0 refl))
 atom_front name.Same tokens p r a = (Sign 40 ∷ Path a.0 ∷ Sign 44 ∷ Path a.1 ∷ Sign 41 ∷ [], a.3, rw a.2 (IsAtom.same a.0 a.1 refl))
-atom_front name.Size tokens p r a = (Sign 40 ∷ Path a.0 ∷ Sign 41 ∷ Sign 61 ∷ Number a.1 ∷ [], a.3, rw a.2 (IsAtom.size a.0 a.1 refl))
+atom_front name.Size tokens p r a = (Sign 40 ∷ Path a.0 ∷ Sign 41 ∷ Sign 61 ∷ Number (Some a.1) ∷ [], a.3, rw a.2 (IsAtom.size a.0 a.1 refl))
 atom_front name.Content tokens p r a = (Sign 40 ∷ Path a.0 ∷ Sign 41 ∷ Sign 61 ∷ Text a.1 ∷ [], a.3, rw a.2 (IsAtom.content a.0 a.1 refl))
 atom_front name.Bytes tokens p r a =
-    (Sign 40 ∷ Path a.0 ∷ Sign 44 ∷ Number a.1 ∷ Sign 41 ∷ Sign 61 ∷ Text a.2 ∷ [], a.5, rw a.4 (IsAtom.bytes a.0 a.1 a.2 a.3 refl))
+    (Sign 40 ∷ Path a.0 ∷ Sign 44 ∷ Number (Some a.1) ∷ Sign 41 ∷ Sign 61 ∷ Text a.2 ∷ [], a.5, rw a.4 (IsAtom.bytes a.0 a.1 a.2 a.3 refl))
 atom_front name.Attr tokens p r a =
-    (Sign 40 ∷ Path a.0 ∷ Sign 44 ∷ Word a.1 ∷ Sign 41 ∷ Sign 61 ∷ Number a.2 ∷ [], a.4, rw a.3 (IsAtom.attr a.0 a.1 a.2 refl))
+    (Sign 40 ∷ Path a.0 ∷ Sign 44 ∷ Word a.1 ∷ Sign 41 ∷ Sign 61 ∷ Number (Some a.2) ∷ [], a.4, rw a.3 (IsAtom.attr a.0 a.1 a.2 refl))
 atom_front name.Seen tokens p r a = (Sign 40 ∷ Word a.0 ∷ Sign 41 ∷ [], a.2, rw a.1 (IsAtom.seen a.0 refl))
 
 -- an atom of the grammar stands at the front of its tokens and any others
@@ -91,11 +91,11 @@ begins_atom lexemes _ (IsAtom.exists path e) r = (name.Exists, Sign 40 ∷ Path 
 begins_atom lexemes _ (IsAtom.same left right e) r =
     (name.Same, Sign 40 ∷ Path left ∷ Sign 44 ∷ Path right ∷ Sign 41 ∷ r, rw e refl, (left, right, refl, refl))
 begins_atom lexemes _ (IsAtom.size path size e) r =
-    (name.Size, Sign 40 ∷ Path path ∷ Sign 41 ∷ Sign 61 ∷ Number size ∷ r, rw e refl, (path, size, refl, refl))
+    (name.Size, Sign 40 ∷ Path path ∷ Sign 41 ∷ Sign 61 ∷ Number (Some size) ∷ r, rw e refl, (path, size, refl, refl))
 begins_atom lexemes _ (IsAtom.content path text e) r =
     (name.Content, Sign 40 ∷ Path path ∷ Sign 41 ∷ Sign 61 ∷ Text text ∷ r, rw e refl, (path, text, refl, refl))
 begins_atom lexemes _ (IsAtom.bytes path at text early e) r =
-    (name.Bytes, Sign 40 ∷ Path path ∷ Sign 44 ∷ Number at ∷ Sign 41 ∷ Sign 61 ∷ Text text ∷ r, rw e refl, (path, at, text, early, refl, refl))
+    (name.Bytes, Sign 40 ∷ Path path ∷ Sign 44 ∷ Number (Some at) ∷ Sign 41 ∷ Sign 61 ∷ Text text ∷ r, rw e refl, (path, at, text, early, refl, refl))
 begins_atom lexemes _ (IsAtom.attr path key value e) r =
-    (name.Attr, Sign 40 ∷ Path path ∷ Sign 44 ∷ Word key ∷ Sign 41 ∷ Sign 61 ∷ Number value ∷ r, rw e refl, (path, key, value, refl, refl))
+    (name.Attr, Sign 40 ∷ Path path ∷ Sign 44 ∷ Word key ∷ Sign 41 ∷ Sign 61 ∷ Number (Some value) ∷ r, rw e refl, (path, key, value, refl, refl))
 begins_atom lexemes _ (IsAtom.seen word e) r = (name.Seen, Sign 40 ∷ Word word ∷ Sign 41 ∷ r, rw e refl, (word, refl, refl))

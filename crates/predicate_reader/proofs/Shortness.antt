@@ -1,5 +1,5 @@
 -- A predicate's canonical text has no more of what is counted than its tokens.
-use Rattle.std.proofs.Common.{ap₂, ◌≡◌, ℕ, suc, ◌+◌, ◌≤◌, Bool, true, false, if◌then◌else◌, List, [], ◌∷◌, ◌++◌, length, length-append, map, sum, max, codes, bytes_eq, refl, ap, ◌∙◌, append_assoc, arith}
+use Rattle.std.proofs.Common.{ap₂, ◌≡◌, ℕ, suc, ◌+◌, ◌≤◌, Bool, true, false, if◌then◌else◌, List, [], ◌∷◌, ◌++◌, Some, length, length-append, map, sum, max, codes, bytes_eq, refl, ap, ◌∙◌, append_assoc, arith}
 use Rattle.std.specs.List.{filter, list_any, sum_by}
 use Rattle.std.proofs.lemmas.Bool.Decides.{nat_tests}
 use Rattle.std.proofs.lemmas.List.{append-nil}
@@ -11,7 +11,9 @@ use Rattle.litmus_syntax.specs.Counts.{Counts, IsShortPred, atom_words, counted,
 use Rattle.lexeme_reader.specs.declared.reading.Lexeme.{Lexeme}
 use Rattle.lexeme_reader.specs.declared.reading.Lexeme.TheVariants.{Word, Number, Text, Sign}
 use Rattle.predicate_reader.specs.Counts.{IsShort, is_word_of, word_count, text_size, most_open}
-use Rattle.predicate_reader.specs.Predicates.{IsAtom, IsExpression, IsPredicate, Binding, Loose, Middle, Tight}
+use Rattle.litmus_syntax.specs.declared.pred.Binding.{Binding}
+use Rattle.litmus_syntax.specs.declared.pred.Binding.TheVariants.{Disjunction, Conjunction, Operand}
+use Rattle.predicate_reader.specs.Predicates.{IsAtom, IsExpression, IsPredicate}
 use Rattle.predicate_reader.proofs.Depths.{most_open_front}
 use Rattle.predicate_reader.proofs.Folds.{fold_true, fold_false, fold_exists, fold_same, fold_size, fold_content, fold_bytes, fold_attr, fold_seen, fold_not, fold_and, fold_or}
 
@@ -48,18 +50,18 @@ closing : (d : ℕ) (r : List Lexeme) → most_open (suc d) (Sign 41 ∷ r) ≡ 
 closing d r = ap (λ (k : ℕ). max (suc d) (most_open k r)) (omega arith)
 
 -- an operand stands in parentheses only where its place asks for more
-less_deep : (c : Counts) → operand_depth 1 c ≤ operand_depth 2 c
+less_deep : (c : Counts) → operand_depth Conjunction c ≤ operand_depth Operand c
 less_deep c = grind (arith, nat_tests)
 
-least_deep : (c : Counts) → operand_depth 0 c ≤ operand_depth 1 c
+least_deep : (c : Counts) → operand_depth Disjunction c ≤ operand_depth Conjunction c
 least_deep c = grind (arith, nat_tests)
 
-no_less : (c : Counts) → c.depth ≤ operand_depth 0 c
+no_less : (c : Counts) → c.depth ≤ operand_depth Disjunction c
 no_less c = grind (arith, nat_tests)
 
 -- what tokens have of what is counted, as an operand whose place asks for this binding: behind them as many
 -- parentheses are open as before them, and between them so many more at most
-record Has (least : ℕ) (a : List Lexeme) (c : Counts) : Type 0 where
+record Has (least : Binding) (a : List Lexeme) (c : Counts) : Type 0 where
   texts_are : texts a ≡ c.texts
   words_are : word_count atom_words a ≡ c.words
   nots_are : word_count (codes "not" ∷ []) a ≡ c.nots
@@ -67,7 +69,7 @@ record Has (least : ℕ) (a : List Lexeme) (c : Counts) : Type 0 where
   rises : (d : ℕ) (r : List Lexeme) → most_open d (a ++ r) ≡ max (d + rise) (most_open d r)
   deep : operand_depth least c ≤ rise
 
-has_atom : (a : List Lexeme) (p : Pred) → IsAtom a p → Has 2 a (counts p)
+has_atom : (a : List Lexeme) (p : Pred) → IsAtom a p → Has Operand a (counts p)
 has_atom a _ (IsAtom.yes e) = rw (e, fold_true Counts counts_of) (record {
   texts_are = refl;
   words_are = refl;
@@ -105,7 +107,7 @@ has_atom a _ (IsAtom.size path size e) = rw (e, fold_size Counts counts_of path 
   words_are = refl;
   nots_are = refl;
   rise = 1;
-  rises = λ d r. omega (arith, closing d (Sign 61 ∷ Number size ∷ r), most_open_front d r);
+  rises = λ d r. omega (arith, closing d (Sign 61 ∷ Number (Some size) ∷ r), most_open_front d r);
   deep = omega arith;
 })
 has_atom a _ (IsAtom.content path text e) = rw (e, fold_content Counts counts_of path text) (record {
@@ -129,7 +131,7 @@ has_atom a _ (IsAtom.attr path key value e) = rw (e, fold_attr Counts counts_of 
   words_are = ap suc (one_word atom_words key);
   nots_are = one_word (codes "not" ∷ []) key;
   rise = 1;
-  rises = λ d r. omega (arith, closing d (Sign 61 ∷ Number value ∷ r), most_open_front d r);
+  rises = λ d r. omega (arith, closing d (Sign 61 ∷ Number (Some value) ∷ r), most_open_front d r);
   deep = omega arith;
 })
 has_atom a _ (IsAtom.seen word e) = rw (e, fold_seen Counts counts_of word) (record {
@@ -141,13 +143,7 @@ has_atom a _ (IsAtom.seen word e) = rw (e, fold_seen Counts counts_of word) (rec
   deep = omega arith;
 })
 
--- what is asked for at a place of this binding
-abbrev rank : Binding → ℕ
-rank Loose = 0
-rank Middle = 1
-rank Tight = 2
-
-has_and : (a b : List Lexeme) (p q : Pred) → Has 1 a (counts p) → Has 2 b (counts q) → Has 1 (a ++ Word (codes "and") ∷ b) (counts (pred.And p q))
+has_and : (a b : List Lexeme) (p q : Pred) → Has Conjunction a (counts p) → Has Operand b (counts q) → Has Conjunction (a ++ Word (codes "and") ∷ b) (counts (pred.And p q))
 has_and a b p q left right = rw (fold_and Counts counts_of p q) (record {
   texts_are = omega (arith, texts-append a (Word (codes "and") ∷ b), left.texts_are, right.texts_are);
   words_are = words-append atom_words a (Word (codes "and") ∷ b) ∙ ap₂ ◌+◌ left.words_are right.words_are;
@@ -157,7 +153,7 @@ has_and a b p q left right = rw (fold_and Counts counts_of p q) (record {
   deep = omega (arith, left.deep, right.deep);
 })
 
-has_or : (a b : List Lexeme) (p q : Pred) → Has 0 a (counts p) → Has 1 b (counts q) → Has 0 (a ++ Word (codes "or") ∷ b) (counts (pred.Or p q))
+has_or : (a b : List Lexeme) (p q : Pred) → Has Disjunction a (counts p) → Has Conjunction b (counts q) → Has Disjunction (a ++ Word (codes "or") ∷ b) (counts (pred.Or p q))
 has_or a b p q left right = rw (fold_or Counts counts_of p q) (record {
   texts_are = omega (arith, texts-append a (Word (codes "or") ∷ b), left.texts_are, right.texts_are);
   words_are = words-append atom_words a (Word (codes "or") ∷ b) ∙ ap₂ ◌+◌ left.words_are right.words_are;
@@ -167,7 +163,7 @@ has_or a b p q left right = rw (fold_or Counts counts_of p q) (record {
   deep = omega (arith, left.deep, right.deep);
 })
 
-has_inner : (a : List Lexeme) (c : Counts) → Has 0 a c → Has 2 (Sign 40 ∷ a ++ Sign 41 ∷ []) c
+has_inner : (a : List Lexeme) (c : Counts) → Has Disjunction a c → Has Operand (Sign 40 ∷ a ++ Sign 41 ∷ []) c
 has_inner a c inner = record {
   texts_are = omega (arith, texts-append a (Sign 41 ∷ []), inner.texts_are);
   words_are = omega (arith, words-append atom_words a (Sign 41 ∷ []), inner.words_are);
@@ -177,7 +173,7 @@ has_inner a c inner = record {
   deep = grind (arith, nat_tests, inner.deep);
 }
 
-has_not : (a : List Lexeme) (p : Pred) → Has 2 a (counts p) → Has 2 (Word (codes "not") ∷ a) (counts (pred.Not p))
+has_not : (a : List Lexeme) (p : Pred) → Has Operand a (counts p) → Has Operand (Word (codes "not") ∷ a) (counts (pred.Not p))
 has_not a p inner = rw (fold_not Counts counts_of p) (record {
   texts_are = omega (arith, inner.texts_are);
   words_are = inner.words_are;
@@ -187,12 +183,12 @@ has_not a p inner = rw (fold_not Counts counts_of p) (record {
   deep = inner.deep;
 })
 
-has : (b : Binding) (a : List Lexeme) (p : Pred) → IsExpression b a p → Has (rank b) a (counts p)
+has : (b : Binding) (a : List Lexeme) (p : Pred) → IsExpression b a p → Has b a (counts p)
 has _ _ _ (IsExpression.atom a p is) = has_atom a p is
-has _ _ _ (IsExpression.inner a p h) = has_inner a (counts p) (has Loose a p h)
-has _ _ _ (IsExpression.negation a p h) = has_not a p (has Tight a p h)
+has _ _ _ (IsExpression.inner a p h) = has_inner a (counts p) (has Disjunction a p h)
+has _ _ _ (IsExpression.negation a p h) = has_not a p (has Operand a p h)
 has _ _ _ (IsExpression.tighter a p h) =
-    let found = has Tight a p h in
+    let found = has Operand a p h in
     record {
       texts_are = found.texts_are;
       words_are = found.words_are;
@@ -201,9 +197,9 @@ has _ _ _ (IsExpression.tighter a p h) =
       rises = found.rises;
       deep = omega (arith, found.deep, less_deep (counts p));
     }
-has _ _ _ (IsExpression.both a b p q h g) = has_and a b p q (has Middle a p h) (has Tight b q g)
+has _ _ _ (IsExpression.both a b p q h g) = has_and a b p q (has Conjunction a p h) (has Operand b q g)
 has _ _ _ (IsExpression.single a p h) =
-    let found = has Middle a p h in
+    let found = has Conjunction a p h in
     record {
       texts_are = found.texts_are;
       words_are = found.words_are;
@@ -212,11 +208,11 @@ has _ _ _ (IsExpression.single a p h) =
       rises = found.rises;
       deep = omega (arith, found.deep, least_deep (counts p));
     }
-has _ _ _ (IsExpression.either a b p q h g) = has_or a b p q (has Loose a p h) (has Middle b q g)
+has _ _ _ (IsExpression.either a b p q h g) = has_or a b p q (has Disjunction a p h) (has Conjunction b q g)
 
 pub short_predicate : (tokens : List Lexeme) (p : Pred) → IsShort tokens → IsPredicate tokens p → IsShortPred p
 short_predicate tokens p short h =
-    let found = has Loose tokens p h in
+    let found = has Disjunction tokens p h in
     record {
       texts = omega (arith, found.texts_are, texts-sum tokens, short.texts);
       words = omega (arith, found.words_are, short.atoms);

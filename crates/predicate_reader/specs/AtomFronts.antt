@@ -1,5 +1,5 @@
--- What tokens begin with: an atom, and any others behind it.
-use Rattle.std.specs.Prelude.{◌≡◌, ℕ, ◌+◌, ◌≤◌, List, ◌∷◌, length}
+-- Private: what tokens begin with, an atom and any others behind it. Only the contracts of private functions cite it.
+use Rattle.std.specs.Prelude.{◌≡◌, ℕ, ◌+◌, ◌≤◌, List, ◌∷◌, Some, length}
 use Rattle.litmus_syntax.specs.declared.pred.Pred.{Pred}
 use Rattle.litmus_syntax.specs.declared.pred.Pred.TheVariants as pred
 use Rattle.lexeme_reader.specs.declared.reading.Lexeme.{Lexeme}
@@ -16,13 +16,13 @@ CompletesAtom name.Exists tokens p rest = (path : List (List ℕ)) × (p ≡ pre
 CompletesAtom name.Same tokens p rest = (left right : List (List ℕ)) × (p ≡ pred.Same left right)
     × (tokens ≡ Sign 40 ∷ Path left ∷ Sign 44 ∷ Path right ∷ Sign 41 ∷ rest)
 CompletesAtom name.Size tokens p rest = (path : List (List ℕ)) × (size : ℕ) × (p ≡ pred.SizeIs path size)
-    × (tokens ≡ Sign 40 ∷ Path path ∷ Sign 41 ∷ Sign 61 ∷ Number size ∷ rest)
+    × (tokens ≡ Sign 40 ∷ Path path ∷ Sign 41 ∷ Sign 61 ∷ Number (Some size) ∷ rest)
 CompletesAtom name.Content tokens p rest = (path : List (List ℕ)) × (text : List ℕ) × (p ≡ pred.ContentIs path text)
     × (tokens ≡ Sign 40 ∷ Path path ∷ Sign 41 ∷ Sign 61 ∷ Text text ∷ rest)
 CompletesAtom name.Bytes tokens p rest = (path : List (List ℕ)) × (at : ℕ) × (text : List ℕ) × (at + length text ≤ 65536) × (p ≡ pred.BytesAre path at text)
-    × (tokens ≡ Sign 40 ∷ Path path ∷ Sign 44 ∷ Number at ∷ Sign 41 ∷ Sign 61 ∷ Text text ∷ rest)
+    × (tokens ≡ Sign 40 ∷ Path path ∷ Sign 44 ∷ Number (Some at) ∷ Sign 41 ∷ Sign 61 ∷ Text text ∷ rest)
 CompletesAtom name.Attr tokens p rest = (path : List (List ℕ)) × (key : List ℕ) × (value : ℕ) × (p ≡ pred.AttrIs path key value)
-    × (tokens ≡ Sign 40 ∷ Path path ∷ Sign 44 ∷ Word key ∷ Sign 41 ∷ Sign 61 ∷ Number value ∷ rest)
+    × (tokens ≡ Sign 40 ∷ Path path ∷ Sign 44 ∷ Word key ∷ Sign 41 ∷ Sign 61 ∷ Number (Some value) ∷ rest)
 CompletesAtom name.Seen tokens p rest = (word : List ℕ) × (p ≡ pred.Seen word) × (tokens ≡ Sign 40 ∷ Word word ∷ Sign 41 ∷ rest)
 
 -- the tokens begin with an atom, and the rest follows

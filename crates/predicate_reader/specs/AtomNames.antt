@@ -1,4 +1,4 @@
--- The words that atoms begin with, or are.
+-- Private: the words that atoms begin with, or are. Only the contracts of private functions cite it.
 use Rattle.std.specs.Prelude.{ℕ, List, codes}
 use Rattle.predicate_reader.specs.declared.atoms.AtomName.{AtomName}
 use Rattle.predicate_reader.specs.declared.atoms.AtomName.TheVariants as name

@@ -38,10 +38,10 @@ abbrev pub most_open : ℕ → List Lexeme → ℕ
 most_open depth [] = depth
 most_open depth (lexeme ∷ lexemes) = max depth (most_open (open_behind depth lexeme) lexemes)
 
--- a question that isn't too long: its texts have 512 bytes at most, it has at most 256 words that atoms begin with and
+-- a question that isn't too long: its texts have 4,096 bytes at most, it has at most 256 words that atoms begin with and
 -- at most 256 words `not`, and at no place are more than 64 parentheses open
 pub record IsShort (asked : List Lexeme) : Type 0 where
-  pub texts : sum (map text_size asked) ≤ 512
+  pub texts : sum (map text_size asked) ≤ 4096
   pub atoms : word_count atom_words asked ≤ 256
   pub nots : word_count (codes "not" ∷ []) asked ≤ 256
   pub depth : most_open 0 asked ≤ 64

@@ -4,7 +4,6 @@ ghost use Rattle.lexeme_reader.specs.declared.reading.Lexeme.{Lexeme};
 ghost use Rattle.predicate_reader.specs.declared.atoms.AtomName.{AtomName};
 ghost use Rattle.predicate_reader.specs.AtomNames.{atom_text};
 ghost use Rattle.predicate_reader.specs.declared.atoms.AtomName.TheVariants as name;
-ghost use Rattle.predicate_reader.specs.Predicates.{AreInRange};
 ghost use Rattle.predicate_reader.specs.AtomFronts.{CompletesAtom, BeginsAtom};
 
 use crate::tokens::{
@@ -100,7 +99,6 @@ fn same_at(alloc: Global, lexemes: &[Lexeme]) -> Result<Option<(Pred, &[Lexeme])
 
 /// What follows the word `size`, and the tokens behind it.
 fn size_at(alloc: Global, lexemes: &[Lexeme]) -> Result<Option<(Pred, &[Lexeme])>, AllocError>
-    requires in_range { AreInRange lexemes.now }
     ensures { IfOk result (λ o. MatchOption o
         ((p : Pred) (rest : List Lexeme) → CompletesAtom name.Size lexemes.now p rest → ⊥)
         (λ found. CompletesAtom name.Size lexemes.now found.0 found.1.now)) }
@@ -140,7 +138,6 @@ fn content_at(alloc: Global, lexemes: &[Lexeme]) -> Result<Option<(Pred, &[Lexem
 
 /// What follows the word `bytes`, and the tokens behind it.
 fn bytes_at(alloc: Global, lexemes: &[Lexeme]) -> Result<Option<(Pred, &[Lexeme])>, AllocError>
-    requires in_range { AreInRange lexemes.now }
     ensures { IfOk result (λ o. MatchOption o
         ((p : Pred) (rest : List Lexeme) → CompletesAtom name.Bytes lexemes.now p rest → ⊥)
         (λ found. CompletesAtom name.Bytes lexemes.now found.0 found.1.now)) }
@@ -170,7 +167,6 @@ fn bytes_at(alloc: Global, lexemes: &[Lexeme]) -> Result<Option<(Pred, &[Lexeme]
 
 /// What follows the word `attr`, and the tokens behind it.
 fn attr_at(alloc: Global, lexemes: &[Lexeme]) -> Result<Option<(Pred, &[Lexeme])>, AllocError>
-    requires in_range { AreInRange lexemes.now }
     ensures { IfOk result (λ o. MatchOption o
         ((p : Pred) (rest : List Lexeme) → CompletesAtom name.Attr lexemes.now p rest → ⊥)
         (λ found. CompletesAtom name.Attr lexemes.now found.0 found.1.now)) }
@@ -220,7 +216,6 @@ fn atom_behind(
     name: AtomName,
     lexemes: &[Lexeme],
 ) -> Result<Option<(Pred, &[Lexeme])>, AllocError>
-    requires in_range { AreInRange lexemes.now }
     ensures { IfOk result (λ o. MatchOption o
         ((p : Pred) (rest : List Lexeme) → CompletesAtom name lexemes.now p rest → ⊥)
         (λ found. CompletesAtom name lexemes.now found.0 found.1.now)) }
@@ -240,7 +235,6 @@ fn atom_behind(
 
 /// The atom at the front, and the tokens behind it.
 pub fn atom_at(alloc: Global, lexemes: &[Lexeme]) -> Result<Option<(Pred, &[Lexeme])>, AllocError>
-    requires in_range { AreInRange lexemes.now }
     ensures { IfOk result (λ o. MatchOption o
         ((p : Pred) (rest : List Lexeme) → BeginsAtom lexemes.now p rest → ⊥)
         (λ found. BeginsAtom lexemes.now found.0 found.1.now)) }

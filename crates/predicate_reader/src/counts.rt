@@ -7,7 +7,7 @@ use crate::atoms::atom_name;
 use lexeme_reader::Lexeme;
 
 /// The most bytes of a question's texts together.
-const MOST_TEXT: usize = 512;
+const MOST_TEXT: usize = 4096;
 
 /// The most words that atoms begin with, and the most words `not`.
 const MOST_WORDS: usize = 256;
@@ -58,7 +58,7 @@ fn text_size(lexeme: &Lexeme) -> usize
 
 /// Whether the texts have too many bytes together.
 fn has_long_texts(asked: &[Lexeme]) -> bool
-    ensures { MatchBool result (512 < sum (map text_size asked.now)) (sum (map text_size asked.now) ≤ 512) }
+    ensures { MatchBool result (4096 < sum (map text_size asked.now)) (sum (map text_size asked.now) ≤ 4096) }
 {
     let mut size = 0;
     let mut rest = asked;
@@ -116,7 +116,7 @@ fn not_count(asked: &[Lexeme]) -> usize
     asked.iter().filter(|lexeme| is_not(lexeme)).count()
 }
 
-/// Whether a question, of which these are the tokens behind its `:`, isn't too long: its texts have 512 bytes at most,
+/// Whether a question, of which these are the tokens behind its `:`, isn't too long: its texts have 4,096 bytes at most,
 /// it has at most 256 words that atoms begin with, or are, and at most 256 words `not`, and at no place are more than
 /// 64 parentheses open.
 pub fn is_short(asked: &[Lexeme]) -> bool

@@ -1,22 +1,14 @@
-ghost use Rattle.std.specs.Prelude.{◌≡◌, ℕ, ◌^◌, ◌<◌, ◌≤◌, MatchBool};
+ghost use Rattle.std.specs.Prelude.{◌≡◌, None, MatchBool};
 ghost use Rattle.lexeme_reader.specs.declared.reading.Lexeme.TheVariants.{Number};
 ghost use Rattle.predicate_reader.specs.Predicates.{AreInRange};
 
 use lexeme_reader::Lexeme;
 
-/// The largest number that is in range.
-const MOST_NUMBER: u64 = (1 << 32) - 1;
-
 /// Whether the token is a number that is out of range.
 fn is_wide(lexeme: &Lexeme) -> bool
-    ensures { MatchBool result
-        ((n : ℕ) × (lexeme.now ≡ Number n) × (2 ^ 32 ≤ n))
-        ((n : ℕ) → lexeme.now ≡ Number n → n < 2 ^ 32) }
+    ensures { MatchBool result (lexeme.now ≡ Number None) (lexeme.now ≡ Number None → ⊥) }
 {
-    match lexeme {
-        Lexeme::Number(number) => *number > MOST_NUMBER,
-        _ => false,
-    }
+    matches!(lexeme, Lexeme::Number(None))
 }
 
 /// Whether each number is in range, which is 2^32 - 1 at most.

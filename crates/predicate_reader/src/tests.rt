@@ -11,7 +11,7 @@ use std::test::Fail;
 
 /// The predicate that a question's tokens are, if they are one and keep to the limits.
 fn read(rt: &HostRuntime, asked: &[Lexeme]) -> Result<Option<Pred>, Fail>
-    requires formed { All (λ l. IsTrue (is_formed l)) asked.now }
+    requires { All (λ l. IsTrue (is_formed l)) asked.now }
     ensures { IfOk result (λ read. MatchOption read ⊤ (λ p. (IsTrue (is_formed_pred p)) × (IsShortPred p))) }
 {
     kept_limits();
@@ -31,74 +31,58 @@ fn printed(rt: &HostRuntime, pred: Pred) -> Result<Vec<u8>, Fail>
 {
     let alloc = rt.alloc();
     let name = Seq::from_slice(alloc, b"a".as_slice())?;
-    let litmus = Litmus::new(name, 4096, Seq::new(alloc), Seq::new(alloc), true, pred, 4);
+    let litmus = Litmus::new(
+        name,
+        1,
+        Seq::new(alloc),
+        Seq::new(alloc),
+        true,
+        pred,
+        4,
+        1,
+        1,
+    );
     Ok(print(alloc, &litmus)?)
+}
+
+/// How the file ends that asks this, and nothing where the question is no predicate or passes a limit.
+fn answer(rt: &HostRuntime, question: &str) -> Result<Vec<u8>, Fail> {
+    let asked = lexemes(rt.alloc(), question.as_bytes())?;
+    match read(rt, asked.as_slice())? {
+        None => Ok(Vec::new(rt.alloc())),
+        Some(pred) => Ok(printed(rt, pred)?),
+    }
 }
 
 #[test]
 fn questions_are_read(rt: HostRuntime) -> Result<(), Fail> {
     let rows = [
-        ("not not true", "exists: not not true\n"),
+        ("not not true", ": not not true\n"),
+        ("true or false and seen(a)", ": true or false and seen(a)\n"),
+        ("(true or false) and true", ": (true or false) and true\n"),
         (
-            "true or false and seen(a)",
-            "exists: true or false and seen(a)\n",
+            "(true and not false) and true",
+            ": true and not false and true\n",
         ),
-        (
-            "(true or false) and true",
-            "exists: (true or false) and true\n",
-        ),
-        ("not true and false", "exists: not true and false\n"),
-        (
-            "(true and false) and true",
-            "exists: true and false and true\n",
-        ),
-        (
-            "true and (false and true)",
-            "exists: true and (false and true)\n",
-        ),
-        ("(true or false) or true", "exists: true or false or true\n"),
-        (
-            "true or (false or true)",
-            "exists: true or (false or true)\n",
-        ),
+        ("true and (false and true)", ": true and (false and true)\n"),
+        ("(true or false) or true", ": true or false or true\n"),
+        ("true or (false or true)", ": true or (false or true)\n"),
         (
             "same(/a,/b)and exists( / )",
-            "exists: same(/a, /b) and exists(/)\n",
+            ": same(/a, /b) and exists(/)\n",
         ),
-        ("size(/a) = 007", "exists: size(/a) = 7\n"),
-        (
-            "content(/a/b) = \"\\x41\"",
-            "exists: content(/a/b) = \"A\"\n",
-        ),
-        (
-            "bytes(/a, 65535) = \"a\"",
-            "exists: bytes(/a, 65535) = \"a\"\n",
-        ),
-        (
-            "attr(/a, k) = 4294967295",
-            "exists: attr(/a, k) = 4294967295\n",
-        ),
-        ("seen(exists)", "exists: seen(exists)\n"),
+        ("size(/a) = 007", ": size(/a) = 7\n"),
+        ("content(/a/b) = \"\\x41\"", ": content(/a/b) = \"A\"\n"),
+        ("bytes(/a, 65535) = \"a\"", ": bytes(/a, 65535) = \"a\"\n"),
+        ("attr(/a, k) = 4294967295", ": attr(/a, k) = 4294967295\n"),
     ];
     for (question, want) in rows {
-        let asked = lexemes(rt.alloc(), question.as_bytes())?;
-        match read(&rt, asked.as_slice())? {
-            None => assert!(rt; false, "{question}"),
-            Some(pred) => {
-                let got = printed(&rt, pred)?;
-                assert!(rt; got.as_slice().ends_with(want.as_bytes()), "{question}");
-            }
-        }
+        let got = answer(&rt, question)?;
+        assert!(rt; got.as_slice().ends_with(want.as_bytes()), "{question}");
     }
-    Ok(())
-}
-
-#[test]
-fn other_tokens_are_none(rt: HostRuntime) -> Result<(), Fail> {
-    let rows = [
+    for question in [
         "",
         "true and",
-        "true or",
         "not",
         "( true",
         "true )",
@@ -109,51 +93,51 @@ fn other_tokens_are_none(rt: HostRuntime) -> Result<(), Fail> {
         "size(/a) = \"a\"",
         "bytes(/a, 65536) = \"a\"",
         "bytes(/a, 65537) = \"\"",
-    ];
-    for question in rows {
-        let asked = lexemes(rt.alloc(), question.as_bytes())?;
-        assert!(rt; read(&rt, asked.as_slice())?.is_none(), "{question}");
+        "size(/a) = 4294967296",
+        "seen(a) size 99999999999999999999",
+    ] {
+        assert!(rt; answer(&rt, question)?.is_empty(), "{question}");
     }
     Ok(())
 }
 
 /// So many copies of a piece of a line.
-fn repeated(line: &mut Vec<u8>, piece: &[u8], count: usize) -> Result<(), Fail> {
+fn repeat(line: &mut Vec<u8>, piece: &str, count: usize) -> Result<(), Fail> {
     for _ in 0..count {
-        line.extend_from_slice(piece)?;
+        line.extend_from_slice(piece.as_bytes())?;
     }
     Ok(())
 }
 
 #[test]
-fn all_limits_are_met_at_once(rt: HostRuntime) -> Result<(), Fail> {
-    let mut line = Vec::new(rt.alloc());
-    repeated(&mut line, b"not ", 256)?;
-    repeated(&mut line, b"(", 64)?;
-    repeated(&mut line, b"true or ", 255)?;
-    line.extend_from_slice(b"true")?;
-    repeated(&mut line, b")", 64)?;
-    let asked = lexemes(rt.alloc(), line.as_slice())?;
-    assert!(rt; matches!(read(&rt, asked.as_slice())?, Some(Pred::Not { .. })));
-    Ok(())
-}
-
-#[test]
-fn too_much_is_not_short(rt: HostRuntime) -> Result<(), Fail> {
+fn limits_are_met_and_passed(rt: HostRuntime) -> Result<(), Fail> {
     let rows = [
-        ("not ", 256),
-        ("(", 64),
-        ("true ", 256),
-        ("\"a\" ", 512),
-        ("seen(exists)", 128),
+        ("", "not ", 256, "true", ""),
+        ("", "(", 64, "true", ")"),
+        ("", "true or ", 255, "true", ""),
+        ("", "true or (", 64, "true", ")"),
+        ("", "seen(exists) and ", 127, "seen(true)", ""),
+        ("content(/a) = \"", "a", 4096, "\"", ""),
     ];
-    for (piece, most) in rows {
+    for (head, piece, most, tail, close) in rows {
         for count in [most, most + 1] {
             let mut line = Vec::new(rt.alloc());
-            repeated(&mut line, piece.as_bytes(), count)?;
+            repeat(&mut line, head, 1)?;
+            repeat(&mut line, piece, count)?;
+            repeat(&mut line, tail, 1)?;
+            repeat(&mut line, close, count)?;
             let asked = lexemes(rt.alloc(), line.as_slice())?;
-            assert!(rt; is_short(asked.as_slice()) == (count == most), "{piece}");
+            let found = read(&rt, asked.as_slice())?;
+            assert!(rt; found.is_some() == (count == most), "{piece} {count}");
         }
     }
+    let mut line = Vec::new(rt.alloc());
+    repeat(&mut line, "not ", 256)?;
+    repeat(&mut line, "(true and true or ", 64)?;
+    repeat(&mut line, "true or ", 127)?;
+    repeat(&mut line, "true", 1)?;
+    repeat(&mut line, ")", 64)?;
+    let asked = lexemes(rt.alloc(), line.as_slice())?;
+    assert!(rt; matches!(read(&rt, asked.as_slice())?, Some(Pred::Not { .. })));
     Ok(())
 }

@@ -1,9 +1,8 @@
-ghost use Rattle.std.specs.Prelude.{◌≡◌, ℕ, List, ◌∷◌, MatchOption};
+ghost use Rattle.std.specs.Prelude.{◌≡◌, ℕ, List, ◌∷◌, Some, MatchOption};
 ghost use Rattle.lexeme_reader.specs.declared.reading.Lexeme.{Lexeme};
 ghost use Rattle.lexeme_reader.specs.declared.reading.Lexeme.TheVariants as says;
-ghost use Rattle.predicate_reader.specs.Predicates.{AreInRange};
 
-use lexeme_reader::{Lexeme, narrow};
+use lexeme_reader::Lexeme;
 use litmus_syntax::{Path, Text};
 
 /// The tokens behind this sign, if they begin with it.
@@ -66,15 +65,14 @@ pub fn text_at(lexemes: &[Lexeme]) -> Option<(&Text, &[Lexeme])>
     }
 }
 
-/// The number at the front, and the tokens behind it.
+/// The number at the front, if it is in range, and the tokens behind it.
 pub fn number_at(lexemes: &[Lexeme]) -> Option<(u32, &[Lexeme])>
-    requires in_range { AreInRange lexemes.now }
     ensures { MatchOption result
-        ((number : ℕ) (rest : List Lexeme) → lexemes.now ≡ says.Number number ∷ rest → ⊥)
-        (λ found. lexemes.now ≡ says.Number found.0 ∷ found.1.now) }
+        ((number : ℕ) (rest : List Lexeme) → lexemes.now ≡ says.Number (Some number) ∷ rest → ⊥)
+        (λ found. lexemes.now ≡ says.Number (Some found.0) ∷ found.1.now) }
 {
     match lexemes.split_first() {
-        Some((Lexeme::Number(number), rest)) => Some((narrow(*number), rest)),
+        Some((Lexeme::Number(Some(number)), rest)) => Some((*number, rest)),
         _ => None,
     }
 }

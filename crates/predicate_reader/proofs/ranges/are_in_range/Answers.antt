@@ -4,8 +4,7 @@ use Rattle.predicate_reader.proofs.ranges.are_in_range.Goals as goal
 
 pub returns-then-is_wide : goal.returns-then-is_wide
 returns-then-is_wide c = λ small.
-    let wide = c.if-is_wide.ensures in
-    no_range wide.0 _ _ (c.in-Some.ensures.cases.0 ∙ ap (λ x. x ∷ c.in-Some.behind.now) wide.1) wide.2 (c.loop-first.invariant.1 small)
+    no_range _ _ (c.in-Some.ensures.cases.0 ∙ ap (λ x. x ∷ c.in-Some.behind.now) c.if-is_wide.ensures) (c.loop-first.invariant.1 small)
 
 pub loop-first-preserved : goal.loop-first-preserved
 loop-first-preserved c = (
