@@ -1,172 +1,243 @@
--- No file is neither a litmus test nor refused.
-use Rattle.std.proofs.Common.{◌≡◌, ℕ, ◌+◌, ◌<◌, ◌≤◌, false, ◌&&◌, List, [], ◌∷◌, ◌++◌, length, Option, Some, None, IsTrue, refl, sym, ◌∙◌, subst, inl, inr, append_assoc, append-nil, arith}
+-- Each file is a litmus test, or it is refused.
+use Rattle.std.proofs.Common.{◌≡◌, ◌⊎◌, ℕ, ◌+◌, ◌<◌, ◌≤◌, Bool, true, false, List, [], ◌∷◌, ◌++◌, length, map, sum, codes, Option, Some, None, IsTrue, refl, sym, ◌∙◌, ap, subst, inl, inr, append_assoc, append-nil, arith}
 use Rattle.std.specs.List.{All}
 use Rattle.std.proofs.lemmas.List.Elements.{All-nil}
-use Rattle.std.proofs.lemmas.Bool.{cases_lt, true_from_ne_false}
+use Rattle.std.proofs.lemmas.Bool.{cases_Bool, cases_lt, true≢false}
+use Rattle.litmus_syntax.specs.declared.call.Call.{Call}
 use Rattle.litmus_syntax.specs.declared.call.Step.{Step}
-use Rattle.litmus_syntax.specs.Forms.{is_formed_call}
 use Rattle.litmus_syntax.specs.CallKinds.{is_sync, is_setup_call, is_body_call}
+use Rattle.litmus_syntax.specs.Transactions.{suits}
+use Rattle.litmus_syntax.specs.Counts.{atom_words}
 use Rattle.litmus_syntax.specs.Test.{Test}
 use Rattle.text_scan.specs.Lines.{lines_of}
-use Rattle.text_scan.proofs.Existing.{some_answer}
 use Rattle.lexeme_reader.specs.declared.reading.Lexeme.{Lexeme}
 use Rattle.lexeme_reader.specs.Lexemes.{is_formed, AreLexemes}
-use Rattle.lexeme_reader.proofs.Formed.{lexemes_formed}
+use Rattle.predicate_reader.specs.Counts.{IsShort, text_size, word_count, most_open}
 use Rattle.predicate_reader.specs.Predicates.{AreInRange}
-use Rattle.litmus_reader.specs.declared.places.Place.{Place}
-use Rattle.litmus_reader.specs.declared.places.Place.TheVariants.{Start, InSetup, InBody}
+use Rattle.litmus_reader.specs.declared.stages.Stage.{Stage}
+use Rattle.litmus_reader.specs.declared.stages.Stage.TheVariants.{Start, BehindHead, BehindBlock, BehindSector, InSetup, InBody, End}
 use Rattle.litmus_reader.specs.declared.draft.Draft.{Draft}
 use Rattle.litmus_reader.specs.declared.draft.Asked.{Asked}
 use Rattle.litmus_reader.specs.declared.fault.LitmusKind.{LitmusKind}
 use Rattle.litmus_reader.specs.declared.fault.LitmusKind.TheVariants.{BadByte, BadToken, BadLine, OutOfOrder, NumberRange, NotHere, BadPredicate, EndsEarly, TooLong}
-use Rattle.litmus_reader.specs.Stages.{place_behind}
-use Rattle.litmus_reader.specs.Statements.{Statement, Head, Block, Setup, Body, Called, Question, statement_lexemes, form_of}
-use Rattle.litmus_reader.specs.Faults.{IsOutOfRange, IsSound}
-use Rattle.litmus_reader.specs.FirstFaults.{IsLineFault}
+use Rattle.litmus_reader.specs.Stages.{stage_behind}
+use Rattle.litmus_reader.specs.Statements.{Statement, Head, Block, Sector, Setup, Body, Called, Question, statement_lexemes, form_of}
+use Rattle.litmus_reader.specs.Versions.{version_of, version_has}
+use Rattle.litmus_reader.specs.Faults.{HasWide, pairs, IsSound}
+use Rattle.litmus_reader.specs.FirstFaults.{IsFirstKind, IsLineFault}
 use Rattle.litmus_reader.specs.StatedLines.{Stated, statements}
-use Rattle.litmus_reader.specs.LitmusText.{IsLitmusText, IsLitmusRefused}
-use Rattle.litmus_reader.specs.Drafts.{StandsAt, IsDraft}
-use Rattle.litmus_reader.specs.TakenLines.{IsTaken, IsReadTo}
-use Rattle.litmus_reader.proofs.Faulting.{Lacks, sound, fault_order, fault_range, fault_here, fault_long, fault_asks, wide_or_small}
-use Rattle.litmus_reader.proofs.Fronts.{setup_calls_so_far, body_calls_so_far}
-use Rattle.litmus_reader.proofs.Drafting.{may_not, call_place, head_taken, block_taken, setup_taken, body_taken}
-use Rattle.litmus_reader.proofs.Calling.{setup_count, body_count, setup_call_taken, body_call_taken, question_taken}
+use Rattle.litmus_reader.specs.LitmusText.{IsFirstFault, IsLitmusText, IsLitmusRefused}
+use Rattle.litmus_reader.specs.Drafts.{IsOfFormed, IsExpected, IsDraft}
+use Rattle.litmus_reader.specs.TakenLines.{IsTaken, IsLineTaken, IsReadTo}
+use Rattle.litmus_reader.proofs.Below.{LineLaws, PredicateLaws}
+use Rattle.litmus_reader.proofs.Leading.{statement_decided, alike_statement, no_statement_blank}
+use Rattle.litmus_reader.proofs.Faulting.{fault_foreign, alike_version, fault_range, wide_or_small}
+use Rattle.litmus_reader.proofs.Drafting.{has_version, in_order, may_not, unpaired_fault, head_taken, block_taken, block_fault, sector_taken, sector_fault, setup_taken, body_taken}
+use Rattle.litmus_reader.proofs.Calling.{call_stage, setup_call_taken, setup_call_fault, body_call_taken, body_call_fault, question_taken, question_fault}
 use Rattle.litmus_reader.proofs.Finishing.{unasked, finished, test_of}
-use Rattle.litmus_reader.proofs.OneLine.{line_says}
 use Rattle.litmus_reader.proofs.Stating.{read_none, read_one, cut_short}
 
--- a sound statement is taken
-module _ (stated : List Stated) (d : Draft) (line : ℕ) (h : IsDraft stated d) where
-  taken : (s : Statement) (q : Place) → place_behind d.place (form_of s) ≡ Some q → IsSound (statements stated) s
-      → All (λ l. IsTrue (is_formed l)) (statement_lexemes s) → AreInRange (statement_lexemes s) → ((e : Draft) → IsTaken stated line s e → ⊥) → ⊥
-  taken (Head name) q next all formed small none = none _ (head_taken stated d _ line name q h next formed small refl)
-  taken (Block size) q next all formed small none = elim (cases_lt 0 size) [
-    | inl some ↦ elim (cases_lt 65536 size) [
-      | inl many ↦ all NumberRange (inr (inr many))
-      | inr few ↦ none _ (block_taken stated d _ line size q h next small some few refl)
+-- whether a question is too long is decided
+short_decided : (asked : List Lexeme) → IsShort asked ⊎ (IsShort asked → ⊥)
+short_decided asked = elim (cases_lt 4096 (sum (map text_size asked))) [
+  | inl long ↦ inr (λ short. omega (arith, short.texts))
+  | inr texts ↦ elim (cases_lt 256 (word_count atom_words asked)) [
+    | inl long ↦ inr (λ short. omega (arith, short.atoms))
+    | inr atoms ↦ elim (cases_lt 256 (word_count (codes "not" ∷ []) asked)) [
+      | inl long ↦ inr (λ short. omega (arith, short.nots))
+      | inr nots ↦ elim (cases_lt 64 (most_open 0 asked)) [
+        | inl long ↦ inr (λ short. omega (arith, short.depth))
+        | inr depth ↦ inl (record { texts = texts; atoms = atoms; nots = nots; depth = depth })
+      ]
     ]
-    | inr zero_size ↦ all NumberRange (inr (inl (omega arith)))
   ]
-  taken Setup q next all formed small none = none _ (setup_taken stated d _ line q h next small refl)
-  taken Body q next all formed small none = none _ (body_taken stated d _ line q h next small refl)
-  taken (Called c) q next all formed small none = elim (call_place d.place q next) [
-    | inl (at, leads) ↦
-        let here = subst (λ (p : Place). StandsAt p stated d) at h.stands in
-        let open_still = (setup_calls_so_far stated d here).0 in
-        let fits = true_from_ne_false (is_setup_call c) (λ other. all NotHere (inr (open_still, other))) in
-        let outside : q ≡ InBody → ⊥ = λ e. let same : InSetup ≡ InBody = sym leads ∙ e in cc in
-        elim (cases_lt (length d.setup) 256) [
-          | inl few ↦ none _ (setup_call_taken stated d _ line c q h next outside formed small fits few refl)
-          | inr many ↦ all TooLong (inl (open_still, omega (arith, setup_count stated d here)))
+]
+
+in_body_decided : (p : Stage) → (p ≡ InBody) ⊎ (p ≡ InBody → ⊥)
+in_body_decided InBody = inl refl
+in_body_decided p = inr (λ e. absurd cc)
+
+-- a statement is taken, or it has a fault
+module _ (predicates : PredicateLaws) (stated : List Stated) (d : Draft) (line : ℕ) (h : IsDraft stated d) where
+  abbrev Answered : Statement → Type 0
+  Answered s = ((e : Draft) × IsTaken stated line s e) ⊎ ((kind : LitmusKind) × IsFirstKind (statements stated) s kind)
+
+  setup_call : (c : Call) (q : Stage) → IsExpected d q (Called c) → (q ≡ InBody → ⊥) → Answered (Called c)
+  setup_call c q x outside = elim (cases_Bool (is_setup_call c)) [
+    | inr other ↦ inr (NotHere, setup_call_fault stated d c q NotHere h x outside (inl (refl, other)))
+    | inl fits ↦ elim (cases_lt (length d.setup) 256) [
+      | inl few ↦ inl (_, setup_call_taken stated d _ line c q h x outside fits few refl)
+      | inr many ↦ inr (TooLong, setup_call_fault stated d c q TooLong h x outside (inr (refl, fits, many)))
+    ]
+  ]
+
+  body_call : (c : Call) (q : Stage) → IsExpected d q (Called c) → q ≡ InBody → Answered (Called c)
+  body_call c q x inside = elim (cases_Bool (is_body_call c)) [
+    | inr other ↦ inr (NotHere, body_call_fault stated d c q NotHere h x inside (inl (refl, inl other)))
+    | inl fits ↦ elim (cases_Bool (suits d.in_transaction c)) [
+      | inr other ↦ inr (NotHere, body_call_fault stated d c q NotHere h x inside (inl (refl, inr other)))
+      | inl suit ↦ elim (cases_Bool (is_sync c)) [
+        | inl waits ↦ inl (_, body_call_taken stated d _ line c q h x inside fits suit (λ change. absurd (true≢false (sym waits ∙ change))) refl)
+        | inr change ↦ elim (cases_lt d.changes 128) [
+          | inl few ↦ inl (_, body_call_taken stated d _ line c q h x inside fits suit (λ same. few) refl)
+          | inr many ↦ inr (TooLong, body_call_fault stated d c q TooLong h x inside (inr (refl, fits, suit, change, many)))
         ]
-    | inr (at, leads) ↦
-        let here = subst (λ (p : Place). StandsAt p stated d) at h.stands in
-        let begun = (body_calls_so_far stated d here).0 in
-        let fits = true_from_ne_false (is_body_call c) (λ other. all NotHere (inl (begun, other))) in
-        let room : is_sync c ≡ false → d.changes < 128 = λ change. elim (cases_lt d.changes 128) [
-          | inl few ↦ few
-          | inr many ↦ absurd (all TooLong (inr (begun, change, omega (arith, body_count stated d here, h.changes))))
-        ] in
-        none _ (body_call_taken stated d _ line c q h next leads formed small fits room refl)
-  ]
-  taken (Question want asked) q next all formed small none =
-      all TooLong (λ short. all BadPredicate (λ pred is_pred. none _ (question_taken stated d _ line want asked pred q h next formed small short is_pred refl)))
-
-  place_known : (s : Statement) (o : Option Place) → place_behind d.place (form_of s) ≡ o → IsSound (statements stated) s
-      → All (λ l. IsTrue (is_formed l)) (statement_lexemes s) → ((e : Draft) → IsTaken stated line s e → ⊥) → ⊥
-  place_known s None next all formed none = all OutOfOrder ((may_not stated d s h next).4)
-  place_known s (Some q) next all formed none = elim (wide_or_small (statement_lexemes s)) [
-    | inl large ↦ all NumberRange (inl large)
-    | inr small ↦ taken s q next all formed small none
+      ]
+    ]
   ]
 
-module _ (bytes : List ℕ) (no_text : (t : Test) → IsLitmusText bytes t → ⊥) (no_refusal : (i : ℕ) (k : LitmusKind) → IsLitmusRefused bytes i k → ⊥)
-    (few : length bytes ≤ 65536) where
-  -- no line is bad
-  not_bad : (before behind : List (List ℕ)) (line : List ℕ) (d : Draft) (h : IsReadTo before d) → lines_of bytes ≡ before ++ line ∷ behind
-      → (kind : LitmusKind) → IsLineFault (statements h.stated) line kind → ⊥
-  not_bad before behind line d h cut kind bad =
-      no_refusal (length before + 1) kind (inr (inl (
-        few,
+  expected : (s : Statement) (q : Stage) → IsExpected d q s → Answered s
+  expected (Head name number) q x = inl (_, head_taken stated d _ line name number q h x refl)
+  expected (Block size) q x = elim (cases_lt 0 size) [
+    | inr none ↦ inr (NumberRange, block_fault stated d size q h x (inl (omega arith)))
+    | inl some ↦ elim (cases_lt 65536 size) [
+      | inl many ↦ inr (NumberRange, block_fault stated d size q h x (inr many))
+      | inr few ↦ inl (_, block_taken stated d _ line size q h x some few refl)
+    ]
+  ]
+  expected (Sector size) q x = elim (cases_lt 0 size) [
+    | inr none ↦ inr (NumberRange, sector_fault stated d size q h x (inl (omega arith)))
+    | inl some ↦ elim (cases_lt d.block size) [
+      | inl many ↦ inr (NumberRange, sector_fault stated d size q h x (inr many))
+      | inr few ↦ inl (_, sector_taken stated d _ line size q h x some few refl)
+    ]
+  ]
+  expected Setup q x = inl (_, setup_taken stated d _ line q h x refl)
+  expected Body q x = inl (_, body_taken stated d _ line q h x refl)
+  expected (Called c) q x = elim (call_stage d.stage q x.leads) [
+    | inl (at, leads) ↦ setup_call c q x (λ e. let same : InSetup ≡ InBody = sym leads ∙ e in absurd cc)
+    | inr (at, leads) ↦ body_call c q x leads
+  ]
+  expected (Question want asked) q x = elim (short_decided asked) [
+    | inr long ↦ inr (TooLong, question_fault stated d want asked q TooLong h x (inl (refl, long)))
+    | inl short ↦ elim (predicates.some asked) [
+      | inl (pred, is) ↦ inl (_, question_taken stated d _ line want asked pred q h x short is refl)
+      | inr none ↦ inr (BadPredicate, question_fault stated d want asked q BadPredicate h x (inr (refl, short, none)))
+    ]
+  ]
+
+  -- transactions allow the statement, or it stands in the body and they don't
+  paired_or_not : (s : Statement) → (d.stage ≡ InBody → pairs d.in_transaction s ≡ true) ⊎ ((d.stage ≡ InBody) × (pairs d.in_transaction s ≡ false))
+  paired_or_not s = elim (in_body_decided d.stage) [
+    | inr outside ↦ inl (λ inside. absurd (outside inside))
+    | inl inside ↦ elim (cases_Bool (pairs d.in_transaction s)) [ inl paired ↦ inl (λ same. paired) | inr unpaired ↦ inr (inside, unpaired) ]
+  ]
+
+  led : (s : Statement) (o : Option Stage) → stage_behind d.stage (form_of s) ≡ o → All (λ l. IsTrue (is_formed l)) (statement_lexemes s)
+      → version_has d.version s ≡ true → Answered s
+  led s None next formed has = inr (OutOfOrder, may_not stated d s h has next)
+  led s (Some q) next formed has = elim (paired_or_not s) [
+    | inr (inside, unpaired) ↦ inr (OutOfOrder, unpaired_fault stated d s h has inside unpaired)
+    | inl paired ↦ elim (wide_or_small (statement_lexemes s)) [
+      | inl large ↦ inr (NumberRange, fault_range (statements stated) s (has_version stated d s h has) (in_order stated d s q h next paired) (inl large))
+      | inr small ↦ expected s q (record { of_version = has; leads = next; paired = paired; formed = formed; in_range = small })
+    ]
+  ]
+
+  answered : (s : Statement) → All (λ l. IsTrue (is_formed l)) (statement_lexemes s) → Answered s
+  answered s formed = elim (cases_Bool (version_has d.version s)) [
+    | inr foreign ↦ inr (BadLine, fault_foreign (statements stated) s (ap (λ (v : ℕ). version_has v s) (sym h.version) ∙ foreign))
+    | inl has ↦ led s (stage_behind d.stage (form_of s)) refl formed has
+  ]
+
+-- the fault of a statement is that of its line
+line_fault_of : (before : List Statement) (line : List ℕ) (s : Statement) (kind : LitmusKind) → AreLexemes line (statement_lexemes s) → IsFirstKind before s kind
+    → ((other : LitmusKind) × IsLineFault before line other)
+line_fault_of before line s BadLine says h = (BadLine, (statement_lexemes s, says, no_statement_blank s, λ t e. sym (alike_version (version_of before) s t (alike_statement s t e)) ∙ h.4))
+line_fault_of before line s BadByte says h = absurd (h.4)
+line_fault_of before line s BadToken says h = absurd (h.4)
+line_fault_of before line s kind says h = (kind, (s, says, h))
+
+module _ (laws : LineLaws) (predicates : PredicateLaws) where
+  -- a line is taken, or it has a fault
+  abbrev LineAnswered : List Stated → ℕ → List ℕ → Type 0
+  LineAnswered stated number line = ((e : Draft) × IsLineTaken stated number line e) ⊎ ((kind : LitmusKind) × IsLineFault (statements stated) line kind)
+
+  said : (stated : List Stated) (d : Draft) (number : ℕ) (line : List ℕ) (tokens : List Lexeme) → IsDraft stated d → AreLexemes line tokens → LineAnswered stated number line
+  said stated d number line [] h are = inl (d, inl (are, h))
+  said stated d number line (l ∷ ls) h are = elim (statement_decided (l ∷ ls)) [
+    | inr none ↦ inr (BadLine, (l ∷ ls, are, (λ e. absurd cc), λ s e. absurd (none s e)))
+    | inl (s, is) ↦
+        let says : AreLexemes line (statement_lexemes s) = subst (λ (ts : List Lexeme). AreLexemes line ts) is are in
+        elim (answered predicates stated d number h s (laws.formed line (statement_lexemes s) says)) [
+          | inl (e, taken) ↦ inl (e, inr (s, says, taken))
+          | inr (kind, fault) ↦ inr (line_fault_of (statements stated) line s kind says fault)
+        ]
+  ]
+
+  line_answered : (stated : List Stated) (d : Draft) (number : ℕ) (line : List ℕ) → IsDraft stated d → LineAnswered stated number line
+  line_answered stated d number line h = elim (laws.some line) [
+    | inl (tokens, are) ↦ said stated d number line tokens h are
+    | inr (inl bad) ↦ inr (BadByte, bad)
+    | inr (inr bad) ↦ inr (BadToken, bad)
+  ]
+
+  -- all lines are taken, or one of them has the first fault
+  module _ (all : List (List ℕ)) where
+    go : (rest before : List (List ℕ)) (d : Draft) → IsReadTo before d → all ≡ before ++ rest
+        → ((e : Draft) × IsReadTo all e) ⊎ ((number : ℕ) × (kind : LitmusKind) × IsFirstFault all number kind)
+    go [] before d h cut = inl (d, subst (λ (ls : List (List ℕ)). IsReadTo ls d) (sym (cut ∙ append-nil before)) h)
+    go (line ∷ rest) before d h cut = elim (line_answered h.stated d (1 + length before) line h.kept) [
+      | inl (e, taken) ↦ go rest (before ++ line ∷ []) e (read_one before line d e (1 + length before) h refl taken) (cut ∙ sym (append_assoc before (line ∷ []) rest))
+      | inr (kind, fault) ↦ inr (
+        length before + 1,
+        kind,
         record {
           before = before;
           line = line;
-          behind = behind;
+          behind = rest;
           stated = h.stated;
           cut = cut;
           counted = refl;
           read = h.read;
           sound = h.sound;
-          bad = bad;
+          bad = fault;
         },
-      )))
+      )
+    ]
 
-  -- all lines were read
-  ended : (d : Draft) (o : Option Asked) → d.question ≡ o → IsReadTo (lines_of bytes) d → ⊥
-  ended d None is h = no_refusal (length (lines_of bytes) + 1) EndsEarly
-      (cut_short bytes (lines_of bytes) d (length (lines_of bytes) + 1) EndsEarly few refl h (λ stated kept. unasked stated d kept is) refl refl)
-  ended d (Some q) is h = no_text (test_of d q) (few, h.stated, h.read, finished h.stated d q h.kept is)
+  ended : (bytes : List ℕ) (d : Draft) (o : Option Asked) → length bytes ≤ 65536 → d.question ≡ o → IsReadTo (lines_of bytes) d
+      → ((t : Test) × IsLitmusText bytes t) ⊎ ((number : ℕ) × (kind : LitmusKind) × IsLitmusRefused bytes number kind)
+  ended bytes d None few is h =
+      inr (length (lines_of bytes) + 1, EndsEarly, cut_short bytes d (length (lines_of bytes) + 1) EndsEarly few h (λ stated kept. unasked stated d kept is) refl refl)
+  ended bytes d (Some q) few is h = inl (test_of d q, (few, h.stated, h.read, finished h.stated d q h.kept is))
 
-  -- a statement without a fault is sound
-  no_fault_found : (before behind : List (List ℕ)) (line : List ℕ) (d : Draft) (h : IsReadTo before d) → lines_of bytes ≡ before ++ line ∷ behind
-      → (s : Statement) → AreLexemes line (statement_lexemes s) → IsSound (statements h.stated) s
-  no_fault_found before behind line d h cut s says =
-      let ss = statements h.stated in
-      let order : Lacks ss s OutOfOrder = λ has. not_bad before behind line d h cut OutOfOrder (s, says, fault_order ss s has) in
-      let range : Lacks ss s NumberRange = λ has. not_bad before behind line d h cut NumberRange (s, says, fault_range ss s order has) in
-      let here : Lacks ss s NotHere = λ has. not_bad before behind line d h cut NotHere (s, says, fault_here ss s order range has) in
-      let long : Lacks ss s TooLong = λ has. not_bad before behind line d h cut TooLong (s, says, fault_long ss s order range here has) in
-      let asks : Lacks ss s BadPredicate = λ has. not_bad before behind line d h cut BadPredicate (s, says, fault_asks ss s order range here long has) in
-      sound ss s order range here long asks
-
-  one_more : (before behind : List (List ℕ)) (line : List ℕ) (d : Draft) → IsReadTo before d → lines_of bytes ≡ before ++ line ∷ behind
-      → ((e : Draft) → IsReadTo (before ++ line ∷ []) e → ⊥) → ⊥
-  one_more before behind line d h cut none = elim (some_answer line) [
-    | inl (tokens, are) ↦ said (line_says line tokens are)
-    | inr (inl bad) ↦ not_bad before behind line d h cut BadByte bad
-    | inr (inr bad) ↦ not_bad before behind line d h cut BadToken bad
+  pub read_or_refused : (empty : Draft) → IsDraft [] empty → (bytes : List ℕ)
+      → ((t : Test) × IsLitmusText bytes t) ⊎ ((number : ℕ) × (kind : LitmusKind) × IsLitmusRefused bytes number kind)
+  read_or_refused empty kept bytes = elim (cases_lt 65536 (length bytes)) [
+    | inl long ↦ inr (0, TooLong, inl (long, refl, refl))
+    | inr few ↦ elim (go (lines_of bytes) (lines_of bytes) [] empty (read_none empty kept) refl) [
+      | inl (d, h) ↦ ended bytes d d.question few refl h
+      | inr (number, kind, fault) ↦ inr (number, kind, inr (inl (few, fault)))
+    ]
   ]
-    where
-      stated_by : (s : Statement) → AreLexemes line (statement_lexemes s) → ⊥
-      stated_by s says =
-          place_known h.stated d (1 + length before) h.kept s (place_behind d.place (form_of s)) refl (no_fault_found before behind line d h cut s says)
-          (lexemes_formed line (statement_lexemes s) says)
-          (λ e more. none e (read_one before line d e (1 + length before) h refl (inr (s, says, more))))
-
-      said : (lexemes : List Lexeme) × AreLexemes line lexemes → ⊥
-      said ([], blank) = none d (read_one before line d d (1 + length before) h refl (inl (blank, h.kept)))
-      said (l ∷ ls, are) =
-          not_bad before behind line d h cut BadLine
-          (l ∷ ls, are, (λ e. cc), λ s e. stated_by s (subst (λ (x : List Lexeme). AreLexemes line x) e are))
-
-  go : (rest before : List (List ℕ)) (d : Draft) → IsReadTo before d → lines_of bytes ≡ before ++ rest → ⊥
-  go [] before d h cut =
-      ended d d.question refl (subst (λ (ls : List (List ℕ)). IsReadTo ls d) (sym (cut ∙ append-nil before)) h)
-  go (line ∷ rest) before d h cut =
-      one_more before rest line d h cut
-      (λ e more. go rest (before ++ line ∷ []) e more (cut ∙ sym (append_assoc before (line ∷ []) rest)))
 
 -- a draft of which nothing is read yet
 abbrev empty_draft : Draft
-empty_draft = record { place = Start; name = []; block = 4096; setup = []; body = []; changes = 0; question = None }
+empty_draft = record { stage = Start; name = []; version = 1; block = 4096; sector = 4096; setup = []; body = []; changes = 0; in_transaction = false; question = None }
 
 empty_kept : IsDraft [] empty_draft
 empty_kept = record {
-  stands = (refl, refl, refl, refl, refl);
-  named = λ begun. absurd (begun refl);
-  some_block = omega arith;
-  block = omega arith;
-  in_range = All-nil (λ (s : Stated). IsOutOfRange s.statement → ⊥);
-  setup = All-nil (λ (step : Step). IsTrue (is_setup_call step.call && is_formed_call step.call));
+  stands = (refl, refl, refl, (refl, refl, refl));
+  reached = refl;
+  version = refl;
+  block = refl;
+  of_version = All-nil (λ (s : Stated). version_has 1 s.statement ≡ true);
+  narrow = All-nil (λ (s : Stated). HasWide s.statement → ⊥);
+  formed = All-nil IsOfFormed;
+  some_sector = omega arith;
+  small_sector = omega arith;
+  small_block = omega arith;
+  setup = All-nil (λ (step : Step). is_setup_call step.call ≡ true);
   few_setup = omega arith;
-  body = All-nil (λ (step : Step). IsTrue (is_body_call step.call && is_formed_call step.call));
-  few_body = omega arith;
+  body = All-nil (λ (step : Step). is_body_call step.call ≡ true);
   changes = refl;
+  few_body = omega arith;
+  opened = refl;
+  placed = refl;
 }
 
 -- a file is one of the two
-pub one_of_them : (bytes : List ℕ) → ((t : Test) → IsLitmusText bytes t → ⊥) → ((i : ℕ) (k : LitmusKind) → IsLitmusRefused bytes i k → ⊥) → ⊥
-one_of_them bytes no_text no_refusal = elim (cases_lt 65536 (length bytes)) [
-  | inl long ↦ no_refusal 0 TooLong (inl (long, refl, refl))
-  | inr few ↦ go bytes no_text no_refusal few (lines_of bytes) [] empty_draft (read_none empty_draft empty_kept) refl
-]
+pub text_or_refusal : (laws : LineLaws) (predicates : PredicateLaws) (bytes : List ℕ)
+    → ((t : Test) × IsLitmusText bytes t) ⊎ ((number : ℕ) × (kind : LitmusKind) × IsLitmusRefused bytes number kind)
+text_or_refusal laws predicates bytes = read_or_refused laws predicates empty_draft empty_kept bytes

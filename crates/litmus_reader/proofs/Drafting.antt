@@ -1,333 +1,373 @@
 -- A draft that takes one more line keeps one more statement, or the line has a fault.
-use Rattle.std.proofs.Common.{◌≡◌, ◌≢◌, ◌⊎◌, ℕ, ◌+◌, ◌^◌, ◌<◌, ◌≤◌, Bool, true, false, not, ◌&&◌, cond, List, [], ◌∷◌, ◌++◌, length, map, Some, None, IsTrue, if◌then◌else◌, refl, sym, ◌∙◌, ap, subst, inl, inr, append_assoc, length-append, arith}
+use Rattle.std.proofs.Common.{◌≡◌, ◌≢◌, ◌⊎◌, ℕ, ◌+◌, ◌^◌, ◌<◌, ◌≤◌, Bool, true, false, not, ◌&&◌, List, [], ◌∷◌, ◌++◌, length, map, Option, Some, None, IsTrue, refl, sym, ◌∙◌, ap, subst, inl, inr, append_assoc, append-nil, arith}
 use Rattle.std.specs.List.{All}
 use Rattle.std.proofs.lemmas.List.{map-append}
-use Rattle.std.proofs.lemmas.List.Elements.{All-push, All-head, All-tail, filter-append}
+use Rattle.std.proofs.lemmas.List.Elements.{All-push, All-nil, All-same}
 use Rattle.std.proofs.lemmas.Option.{none-some, same_Some}
-use Rattle.std.proofs.lemmas.Bool.{and_from, lt-ltb}
-use Rattle.text_scan.specs.Forms.{is_word}
-use Rattle.litmus_syntax.specs.declared.call.Call.{Call}
-use Rattle.litmus_syntax.specs.declared.call.Call.TheVariants as call
 use Rattle.litmus_syntax.specs.declared.call.Step.{Step}
-use Rattle.litmus_syntax.specs.CallKinds.{is_sync, sync_free}
-use Rattle.litmus_syntax.specs.Forms.{is_formed_call, is_formed_path, is_byte_text, is_number}
+use Rattle.litmus_syntax.specs.CallKinds.{is_setup_call, is_body_call, sync_free}
+use Rattle.litmus_syntax.specs.Transactions.{calls_of, is_open, all_suit}
 use Rattle.lexeme_reader.specs.declared.reading.Lexeme.{Lexeme}
-use Rattle.lexeme_reader.specs.declared.reading.Lexeme.TheVariants.{Word, Sign}
 use Rattle.lexeme_reader.specs.Lexemes.{is_formed}
-use Rattle.predicate_reader.specs.Predicates.{AreInRange}
+use Rattle.litmus_reader.specs.declared.statements.Form.{Form}
 use Rattle.litmus_reader.specs.declared.statements.Form.TheVariants as form
-use Rattle.litmus_reader.specs.declared.places.Place.{Place}
-use Rattle.litmus_reader.specs.declared.places.Place.TheVariants.{Start, BehindHead, BehindBlock, InSetup, InBody}
+use Rattle.litmus_reader.specs.declared.stages.Stage.{Stage}
+use Rattle.litmus_reader.specs.declared.stages.Stage.TheVariants.{Start, BehindHead, BehindBlock, BehindSector, InSetup, InBody, End}
 use Rattle.litmus_reader.specs.declared.draft.Draft.{Draft}
-use Rattle.litmus_reader.specs.declared.fault.LitmusKind.TheVariants.{OutOfOrder, NumberRange, NotHere, BadPredicate, TooLong}
-use Rattle.litmus_reader.specs.Stages.{place_behind}
-use Rattle.litmus_reader.specs.Statements.{Statement, Head, Block, Setup, Body, Called, statement_lexemes, call_lexemes, form_of}
-use Rattle.litmus_reader.specs.Faults.{IsOutOfRange}
-use Rattle.litmus_reader.specs.FirstFaults.{IsFault}
+use Rattle.litmus_reader.specs.declared.fault.LitmusKind.TheVariants.{BadLine, OutOfOrder, NumberRange, NotHere, BadPredicate, TooLong}
+use Rattle.litmus_reader.specs.Calls.{begins_body, body_calls, block_behind, block_of}
+use Rattle.litmus_reader.specs.Stages.{stage_behind, run}
+use Rattle.litmus_reader.specs.Statements.{Statement, Head, Block, Sector, Setup, Body, Called, Question, statement_lexemes, form_of}
+use Rattle.litmus_reader.specs.Versions.{version_named, version_of, version_has}
+use Rattle.litmus_reader.specs.Faults.{pairs, HasWide}
+use Rattle.litmus_reader.specs.FirstFaults.{IsFirstKind}
 use Rattle.litmus_reader.specs.StatedLines.{Stated, stated_in, statements}
-use Rattle.litmus_reader.specs.WholeFiles.{stated_step}
-use Rattle.litmus_reader.specs.Drafts.{step_in, StandsAt, IsDraft}
+use Rattle.litmus_reader.specs.WholeFiles.{stated_step, IsFront, IsSetup}
+use Rattle.litmus_reader.specs.Drafts.{IsCallless, StandsAt, IsExpected, IsOfFormed, IsDraft}
 use Rattle.litmus_reader.specs.TakenLines.{IsTaken}
-use Rattle.litmus_reader.proofs.Standing.{may_stand, may_not_stand}
-use Rattle.litmus_reader.proofs.Fronts.{forms, reached}
-use Rattle.litmus_reader.proofs.Faulting.{Stands, Lacks, sound, stands, ranges, fault_order, fault_range}
+use Rattle.litmus_reader.proofs.Orders.{may_stand, may_not_stand}
+use Rattle.litmus_reader.proofs.Fronts.{forms, reached_more, block_more, headed, version_more, setup_calls_so_far, body_calls_so_far, front_quiet}
+use Rattle.litmus_reader.proofs.Faulting.{Stands, Lacks, sound, known, ordered, ranges, fault_foreign, fault_order, fault_range}
 
--- a line that leads to a place may stand behind the statements of the draft
-pub may : (stated : List Stated) (d : Draft) (s : Statement) (q : Place) → IsDraft stated d → place_behind d.place (form_of s) ≡ Some q
+-- a line that leads to a stage may stand behind the statements of the draft
+pub may : (stated : List Stated) (d : Draft) (s : Statement) (q : Stage) → IsDraft stated d → stage_behind d.stage (form_of s) ≡ Some q
     → Stands (statements stated) s
-may stated d s q h next = may_stand (forms stated) (form_of s) d.place q (reached d.place stated d h.stands) next
+may stated d s q h next = may_stand (forms stated) (form_of s) d.stage q h.reached next
+
+-- a statement of the draft's version is known
+pub has_version : (stated : List Stated) (d : Draft) (s : Statement) → IsDraft stated d → version_has d.version s ≡ true → Lacks (statements stated) s BadLine
+has_version stated d s h has = known (statements stated) s (ap (λ (v : ℕ). version_has v s) (sym h.version) ∙ has)
 
 -- and one that leads to none may not
-pub may_not : (stated : List Stated) (d : Draft) (s : Statement) → IsDraft stated d → place_behind d.place (form_of s) ≡ None
-    → IsFault (statements stated) s OutOfOrder
-may_not stated d s h none =
-    fault_order (statements stated) s (may_not_stand (forms stated) (form_of s) d.place (reached d.place stated d h.stands) none)
+pub may_not : (stated : List Stated) (d : Draft) (s : Statement) → IsDraft stated d → version_has d.version s ≡ true → stage_behind d.stage (form_of s) ≡ None
+    → IsFirstKind (statements stated) s OutOfOrder
+may_not stated d s h has none =
+    fault_order (statements stated) s (has_version stated d s h has) (inl (may_not_stand (forms stated) (form_of s) d.stage h.reached none))
 
-pub more_in_range : (stated : List Stated) (line : ℕ) (s : Statement) → All (λ t. IsOutOfRange t.statement → ⊥) stated → (IsOutOfRange s → ⊥)
-    → All (λ t. IsOutOfRange t.statement → ⊥) (stated ++ stated_in line s ∷ [])
-more_in_range stated line s all one = All-push (λ (t : Stated). IsOutOfRange t.statement → ⊥) stated (stated_in line s) all one
+-- before the body no body begins, and at its end no line may stand
+not_begun : (p q : Stage) (stated : List Stated) (d : Draft) (f : Form) → StandsAt p stated d → stage_behind p f ≡ Some q → begins_body (statements stated) ≡ true
+    → p ≡ InBody
+not_begun Start q stated d f h next begun = absurd (let none : begins_body (statements stated) ≡ false = ap (λ (st : List Stated). begins_body (statements st)) h.0 in cc)
+not_begun BehindHead q stated d f h next begun =
+    absurd (let none : begins_body (statements stated) ≡ false = ap (λ (st : List Stated). begins_body (statements st)) h.2 in cc)
+not_begun BehindBlock q stated d f h next begun =
+    absurd (let none : begins_body (statements stated) ≡ false = ap (λ (st : List Stated). begins_body (statements st)) h.3 in cc)
+not_begun BehindSector q stated d f h next begun =
+    absurd (let none = (front_quiet stated d.name d.version d.block d.sector h.0).0 in cc)
+not_begun InSetup q stated d f h next begun = absurd (let none = (setup_calls_so_far stated d h).0 in cc)
+not_begun InBody q stated d f h next begun = refl
+not_begun End q stated d f h next begun = absurd (none-some q next)
 
-first_formed : (w : List ℕ) (name : List ℕ) (rest : List Lexeme) → All (λ l. IsTrue (is_formed l)) (Word w ∷ Word name ∷ rest) → IsTrue (is_word name)
-first_formed w name rest all =
-    let P : Lexeme → Type 0 = λ l. IsTrue (is_formed l) in
-    All-head P (Word name) rest (All-tail P (Word w) (Word name ∷ rest) all)
+-- transactions allow the statement where the draft says so
+pub in_order : (stated : List Stated) (d : Draft) (s : Statement) (q : Stage) → IsDraft stated d → stage_behind d.stage (form_of s) ≡ Some q
+    → (d.stage ≡ InBody → pairs d.in_transaction s ≡ true) → Lacks (statements stated) s OutOfOrder
+in_order stated d s q h next paired =
+    ordered (statements stated) s (may stated d s q h next) (λ begun.
+    let at = not_begun d.stage q stated d (form_of s) h.stands next begun in
+    let here = subst (λ (p : Stage). StandsAt p stated d) at h.stands in
+    ap (λ (b : Bool). pairs b s) (sym (h.opened ∙ ap is_open (sym (body_calls_so_far stated d here).1))) ∙ paired at)
+
+-- and one that they don't allow has that fault
+pub unpaired_fault : (stated : List Stated) (d : Draft) (s : Statement) → IsDraft stated d → version_has d.version s ≡ true → d.stage ≡ InBody
+    → pairs d.in_transaction s ≡ false → IsFirstKind (statements stated) s OutOfOrder
+unpaired_fault stated d s h has at unpaired =
+    let here = subst (λ (p : Stage). StandsAt p stated d) at h.stands in
+    let calls = body_calls_so_far stated d here in
+    fault_order (statements stated) s (has_version stated d s h has)
+    (inr (calls.0, ap (λ (b : Bool). pairs b s) (sym (h.opened ∙ ap is_open (sym calls.1))) ∙ unpaired))
+
+-- what is known of each statement that is expected
+module _ (stated : List Stated) (d : Draft) (line : ℕ) (s : Statement) (q : Stage) (h : IsDraft stated d) (x : IsExpected d q s) where
+  pub has : Lacks (statements stated) s BadLine
+  has = has_version stated d s h x.of_version
+
+  pub order : Lacks (statements stated) s OutOfOrder
+  order = in_order stated d s q h x.leads x.paired
+
+  pub reached_next : run Start (forms (stated ++ stated_in line s ∷ [])) ≡ Some q
+  reached_next = reached_more stated line s d.stage q h.reached x.leads
+
+  pub version_next : d.stage ≢ Start → d.version ≡ version_of (statements (stated ++ stated_in line s ∷ []))
+  version_next begun = h.version ∙ sym (version_more stated d.name line s (headed d.stage stated d h.stands begun))
+
+  pub block_next : block_behind d.block s ≡ block_of (statements (stated ++ stated_in line s ∷ []))
+  block_next = ap (λ (b : ℕ). block_behind b s) h.block ∙ sym (block_more stated line s)
+
+  pub of_version_next : All (λ t. version_has d.version t.statement ≡ true) (stated ++ stated_in line s ∷ [])
+  of_version_next = All-push (λ (t : Stated). version_has d.version t.statement ≡ true) stated (stated_in line s) h.of_version x.of_version
+
+  pub narrow_next : All (λ t. HasWide t.statement → ⊥) (stated ++ stated_in line s ∷ [])
+  narrow_next = All-push (λ (t : Stated). HasWide t.statement → ⊥) stated (stated_in line s) h.narrow x.in_range
+
+  pub formed_next : All IsOfFormed (stated ++ stated_in line s ∷ [])
+  formed_next = All-push IsOfFormed stated (stated_in line s) h.formed x.formed
+
+-- a draft whose calls stay: only the sizes, the stage and what stands there change
+pub sized_taken : (stated : List Stated) (d : Draft) (line : ℕ) (s : Statement) (q : Stage) (block sector : ℕ) → IsDraft stated d → IsExpected d q s
+    → d.stage ≢ Start → StandsAt q (stated ++ stated_in line s ∷ []) (record d { stage = q; block = block; sector = sector })
+    → block ≡ block_behind d.block s → 1 ≤ sector → sector ≤ block → block ≤ 65536
+    → Lacks (statements stated) s NumberRange → Lacks (statements stated) s NotHere → Lacks (statements stated) s TooLong
+    → Lacks (statements stated) s BadPredicate → IsTaken stated line s (record d { stage = q; block = block; sector = sector })
+sized_taken stated d line s q block sector h x begun stands is some small few range here long asks = record {
+  sound = sound (statements stated) s (has stated d line s q h x) (order stated d line s q h x) range here long asks;
+  kept = record {
+    stands = stands;
+    reached = reached_next stated d line s q h x;
+    version = version_next stated d line s q h x begun;
+    block = is ∙ block_next stated d line s q h x;
+    of_version = of_version_next stated d line s q h x;
+    narrow = narrow_next stated d line s q h x;
+    formed = formed_next stated d line s q h x;
+    some_sector = some;
+    small_sector = small;
+    small_block = few;
+    setup = h.setup;
+    few_setup = h.few_setup;
+    body = h.body;
+    changes = h.changes;
+    few_body = h.few_body;
+    opened = h.opened;
+    placed = h.placed;
+  };
+}
 
 -- the head
-head_stands : (p q : Place) (stated : List Stated) (d : Draft) (line : ℕ) (name : List ℕ) → StandsAt p stated d → place_behind p form.Head ≡ Some q
-    → (q ≢ Start) × StandsAt q (stated ++ stated_in line (Head name) ∷ []) (record d { place = q; name = name })
-head_stands Start q stated d line name h next =
+head_stands : (p q : Stage) (stated : List Stated) (d : Draft) (line : ℕ) (name : List ℕ) (number : Option ℕ) → StandsAt p stated d
+    → stage_behind p form.Head ≡ Some q
+    → (stated ≡ []) × StandsAt q (stated ++ stated_in line (Head name number) ∷ []) (record d { stage = q; name = name; version = version_named number })
+head_stands Start q stated d line name number h next =
     let at : BehindHead ≡ q = same_Some BehindHead q next in
-    subst (λ (r : Place). (r ≢ Start) × StandsAt r (stated ++ stated_in line (Head name) ∷ []) (record d { place = q; name = name })) at
-    (λ e. absurd cc, (line, ap (λ (st : List Stated). st ++ stated_in line (Head name) ∷ []) h.0, h.1, h.2, h.3, h.4))
-head_stands p q stated d line name h next = absurd (none-some q next)
+    subst (λ (r : Stage). (stated ≡ []) × StandsAt r (stated ++ stated_in line (Head name number) ∷ []) (record d { stage = q; name = name; version = version_named number })) at
+    (h.0, (line, number, ap (λ (st : List Stated). st ++ stated_in line (Head name number) ∷ []) h.0, refl, h.1, h.2, h.3))
+head_stands p q stated d line name number h next = absurd (none-some q next)
 
-pub head_taken : (stated : List Stated) (d e : Draft) (line : ℕ) (name : List ℕ) (q : Place) → IsDraft stated d → place_behind d.place form.Head ≡ Some q
-    → All (λ l. IsTrue (is_formed l)) (statement_lexemes (Head name)) → AreInRange (statement_lexemes (Head name))
-    → e ≡ record d { place = q; name = name } → IsTaken stated line (Head name) e
-head_taken stated d e line name q h next formed small is =
-    let before = statements stated in
-    let s = Head name in
-    let range : IsOutOfRange s → ⊥ = ranges s small (λ b. b) in
-    subst (λ (x : Draft). IsTaken stated line (Head name) x) (sym is) (record {
-      sound = sound before s (stands before s (may stated d s q h next)) range (λ b. b) (λ b. b) (λ b. b);
+same_head : (v w : ℕ) (name : List ℕ) (number : Option ℕ) → version_has v (Head name number) ≡ version_has w (Head name number)
+same_head v w name None = refl
+same_head v w name (Some n) = refl
+
+pub head_taken : (stated : List Stated) (d e : Draft) (line : ℕ) (name : List ℕ) (number : Option ℕ) (q : Stage) → IsDraft stated d → IsExpected d q (Head name number)
+    → e ≡ record d { stage = q; name = name; version = version_named number } → IsTaken stated line (Head name number) e
+head_taken stated d e line name number q h x is =
+    let s = Head name number in
+    let at = head_stands d.stage q stated d line name number h.stands x.leads in
+    let version = version_named number in
+    let first : version ≡ version_of (statements (stated ++ stated_in line s ∷ [])) =
+    sym (ap (λ (st : List Stated). version_of (statements (st ++ stated_in line s ∷ []))) at.0) in
+    let P : Stated → Type 0 = λ t. version_has version t.statement ≡ true in
+    subst (λ (y : Draft). IsTaken stated line s y) (sym is) (record {
+      sound = sound (statements stated) s (has stated d line s q h x) (order stated d line s q h x) (ranges (statements stated) s x.in_range (λ b. b)) (λ b. b) (λ b. b) (λ b. b);
       kept = record {
-        stands = (head_stands d.place q stated d line name h.stands next).1;
-        named = λ n. first_formed _ name [] formed;
-        some_block = h.some_block;
-        block = h.block;
-        in_range = more_in_range stated line s h.in_range range;
+        stands = at.1;
+        reached = reached_next stated d line s q h x;
+        version = first;
+        block = block_next stated d line s q h x;
+        of_version = All-push P stated (stated_in line s) (All-same P stated [] at.0 (All-nil P)) (same_head version d.version name number ∙ x.of_version);
+        narrow = narrow_next stated d line s q h x;
+        formed = formed_next stated d line s q h x;
+        some_sector = h.some_sector;
+        small_sector = h.small_sector;
+        small_block = h.small_block;
         setup = h.setup;
         few_setup = h.few_setup;
         body = h.body;
-        few_body = h.few_body;
         changes = h.changes;
+        few_body = h.few_body;
+        opened = h.opened;
+        placed = h.placed;
       };
     })
 
 -- the block
-block_stands : (p q : Place) (stated : List Stated) (d : Draft) (line size : ℕ) → StandsAt p stated d → place_behind p form.Block ≡ Some q
-    → (p ≢ Start) × StandsAt q (stated ++ stated_in line (Block size) ∷ []) (record d { place = q; block = size })
-block_stands BehindHead q stated d line size h next =
+block_stands : (p q : Stage) (stated : List Stated) (d : Draft) (line size : ℕ) → StandsAt p stated d → stage_behind p form.Block ≡ Some q
+    → (p ≢ Start) × StandsAt q (stated ++ stated_in line (Block size) ∷ []) (record d { stage = q; block = size; sector = size })
+block_stands BehindHead q stated d line size (head, number, is, version, block, sector, callless) next =
     let at : BehindBlock ≡ q = same_Some BehindBlock q next in (
       λ e. absurd cc,
-      subst (λ (r : Place). StandsAt r (stated ++ stated_in line (Block size) ∷ []) (record d { place = q; block = size })) at
-          (h.0, line, ap (λ (st : List Stated). st ++ stated_in line (Block size) ∷ []) h.1, h.3, h.4, h.5),
+      subst (λ (r : Stage). StandsAt r (stated ++ stated_in line (Block size) ∷ []) (record d { stage = q; block = size; sector = size })) at
+          (head, line, number, ap (λ (st : List Stated). st ++ stated_in line (Block size) ∷ []) is, version, refl, callless),
     )
 block_stands p q stated d line size h next = absurd (none-some q next)
 
-pub block_taken : (stated : List Stated) (d e : Draft) (line size : ℕ) (q : Place) → IsDraft stated d → place_behind d.place form.Block ≡ Some q
-    → AreInRange (statement_lexemes (Block size)) → 1 ≤ size → size ≤ 65536
-    → e ≡ record d { place = q; block = size } → IsTaken stated line (Block size) e
-block_taken stated d e line size q h next small some few is =
-    let before = statements stated in
+pub block_taken : (stated : List Stated) (d e : Draft) (line size : ℕ) (q : Stage) → IsDraft stated d → IsExpected d q (Block size)
+    → 1 ≤ size → size ≤ 65536 → e ≡ record d { stage = q; block = size; sector = size } → IsTaken stated line (Block size) e
+block_taken stated d e line size q h x some few is =
     let s = Block size in
-    let range : IsOutOfRange s → ⊥ = ranges s small (λ b. elim b [ inl none ↦ omega arith | inr many ↦ omega arith ]) in
-    let at = block_stands d.place q stated d line size h.stands next in
-    subst (λ (x : Draft). IsTaken stated line (Block size) x) (sym is) (record {
-      sound = sound before s (stands before s (may stated d s q h next)) range (λ b. b) (λ b. b) (λ b. b);
-      kept = record {
-        stands = at.1;
-        named = λ n. h.named at.0;
-        some_block = some;
-        block = few;
-        in_range = more_in_range stated line s h.in_range range;
-        setup = h.setup;
-        few_setup = h.few_setup;
-        body = h.body;
-        few_body = h.few_body;
-        changes = h.changes;
-      };
-    })
+    let at = block_stands d.stage q stated d line size h.stands x.leads in
+    subst (λ (y : Draft). IsTaken stated line s y) (sym is) (sized_taken stated d line s q size size h x at.0 at.1 refl some (omega arith) few
+    (ranges (statements stated) s x.in_range (λ b. elim b [ inl none ↦ omega arith | inr many ↦ omega arith ])) (λ b. b) (λ b. b) (λ b. b))
 
-pub block_fault : (stated : List Stated) (d : Draft) (size : ℕ) (q : Place) → IsDraft stated d → place_behind d.place form.Block ≡ Some q
-    → (size ≡ 0) ⊎ (65536 < size) → IsFault (statements stated) (Block size) NumberRange
-block_fault stated d size q h next bad =
-    fault_range (statements stated) (Block size) (stands (statements stated) (Block size) (may stated d (Block size) q h next)) (inr bad)
+pub block_fault : (stated : List Stated) (d : Draft) (size : ℕ) (q : Stage) → IsDraft stated d → IsExpected d q (Block size)
+    → (size ≡ 0) ⊎ (65536 < size) → IsFirstKind (statements stated) (Block size) NumberRange
+block_fault stated d size q h x bad =
+    fault_range (statements stated) (Block size) (has stated d 0 (Block size) q h x) (order stated d 0 (Block size) q h x) (inr bad)
 
--- the setup and the body begin
-setup_stands : (p q : Place) (stated : List Stated) (d : Draft) (line : ℕ) → StandsAt p stated d → place_behind p form.Setup ≡ Some q
-    → (p ≢ Start) × StandsAt q (stated ++ stated_in line Setup ∷ []) (record d { place = q })
-setup_stands BehindHead q stated d line (head, is, size, setup, body, unasked) next =
-    let at : InSetup ≡ q = same_Some InSetup q next in (
+-- the sector
+sector_stands : (p q : Stage) (stated : List Stated) (d : Draft) (line size : ℕ) → StandsAt p stated d → stage_behind p form.Sector ≡ Some q
+    → (p ≢ Start) × StandsAt q (stated ++ stated_in line (Sector size) ∷ []) (record d { stage = q; block = d.block; sector = size })
+sector_stands BehindHead q stated d line size (head, number, is, version, block, sector, callless) next =
+    let at : BehindSector ≡ q = same_Some BehindSector q next in
+    let front : IsFront (stated ++ stated_in line (Sector size) ∷ []) d.name d.version d.block size = record {
+      head_line = head;
+      number = number;
+      block_part = [];
+      sector_part = stated_in line (Sector size) ∷ [];
+      order = ap (λ (st : List Stated). st ++ stated_in line (Sector size) ∷ []) is;
+      has_version = version;
+      has_block = inl (refl, block);
+      has_sector = inr (line, refl);
+    } in (
       λ e. absurd cc,
-      subst (λ (r : Place). StandsAt r (stated ++ stated_in line Setup ∷ []) (record d { place = q })) at (
-        head,
-        line,
-        [],
-        inl (refl, size),
-        ap (λ (st : List Stated). st ++ stated_in line Setup ∷ []) is
-            ∙ ap (λ (steps : List Step). stated_in head (Head d.name) ∷ stated_in line Setup ∷ map stated_step steps) (sym setup),
-        body,
-        unasked,
-      ),
+      subst (λ (r : Stage). StandsAt r (stated ++ stated_in line (Sector size) ∷ []) (record d { stage = q; block = d.block; sector = size })) at (front, callless),
     )
-setup_stands BehindBlock q stated d line (head, at_block, is, setup, body, unasked) next =
-    let at : InSetup ≡ q = same_Some InSetup q next in (
+sector_stands BehindBlock q stated d line size (head, at_block, number, is, version, sector, callless) next =
+    let at : BehindSector ≡ q = same_Some BehindSector q next in
+    let front : IsFront (stated ++ stated_in line (Sector size) ∷ []) d.name d.version d.block size = record {
+      head_line = head;
+      number = number;
+      block_part = stated_in at_block (Block d.block) ∷ [];
+      sector_part = stated_in line (Sector size) ∷ [];
+      order = ap (λ (st : List Stated). st ++ stated_in line (Sector size) ∷ []) is;
+      has_version = version;
+      has_block = inr (at_block, refl);
+      has_sector = inr (line, refl);
+    } in (
       λ e. absurd cc,
-      subst (λ (r : Place). StandsAt r (stated ++ stated_in line Setup ∷ []) (record d { place = q })) at (
-        head,
-        line,
-        stated_in at_block (Block d.block) ∷ [],
-        inr (at_block, refl),
-        ap (λ (st : List Stated). st ++ stated_in line Setup ∷ []) is
-            ∙ ap (λ (steps : List Step). stated_in head (Head d.name) ∷ stated_in at_block (Block d.block) ∷ stated_in line Setup ∷ map stated_step steps) (sym setup),
-        body,
-        unasked,
-      ),
+      subst (λ (r : Stage). StandsAt r (stated ++ stated_in line (Sector size) ∷ []) (record d { stage = q; block = d.block; sector = size })) at (front, callless),
     )
-setup_stands p q stated d line h next = absurd (none-some q next)
+sector_stands p q stated d line size h next = absurd (none-some q next)
 
-body_stands : (p q : Place) (stated : List Stated) (d : Draft) (line : ℕ) → StandsAt p stated d → place_behind p form.Body ≡ Some q
-    → (p ≢ Start) × StandsAt q (stated ++ stated_in line Body ∷ []) (record d { place = q })
-body_stands BehindHead q stated d line (head, is, size, setup, body, unasked) next =
-    let at : InBody ≡ q = same_Some InBody q next in (
-      λ e. absurd cc,
-      subst (λ (r : Place). StandsAt r (stated ++ stated_in line Body ∷ []) (record d { place = q })) at (
-        head,
-        line,
-        [],
-        [],
-        inl (refl, size),
-        inl (refl, setup),
-        ap (λ (st : List Stated). st ++ stated_in line Body ∷ []) is
-            ∙ ap (λ (steps : List Step). stated_in head (Head d.name) ∷ stated_in line Body ∷ map stated_step steps) (sym body),
-        unasked,
-      ),
-    )
-body_stands BehindBlock q stated d line (head, at_block, is, setup, body, unasked) next =
-    let at : InBody ≡ q = same_Some InBody q next in (
-      λ e. absurd cc,
-      subst (λ (r : Place). StandsAt r (stated ++ stated_in line Body ∷ []) (record d { place = q })) at (
-        head,
-        line,
-        stated_in at_block (Block d.block) ∷ [],
-        [],
-        inr (at_block, refl),
-        inl (refl, setup),
-        ap (λ (st : List Stated). st ++ stated_in line Body ∷ []) is
-            ∙ ap (λ (steps : List Step). stated_in head (Head d.name) ∷ stated_in at_block (Block d.block) ∷ stated_in line Body ∷ map stated_step steps) (sym body),
-        unasked,
-      ),
-    )
-body_stands InSetup q stated d line (head, at_setup, block, b, is, body, unasked) next =
-    let at : InBody ≡ q = same_Some InBody q next in (
-      λ e. absurd cc,
-      subst (λ (r : Place). StandsAt r (stated ++ stated_in line Body ∷ []) (record d { place = q })) at (
-        head,
-        line,
-        block,
-        stated_in at_setup Setup ∷ map stated_step d.setup,
-        b,
-        inr (at_setup, refl),
-        ap (λ (st : List Stated). st ++ stated_in line Body ∷ []) is
-            ∙ ap (λ (steps : List Step). stated_in head (Head d.name) ∷ block ++ (stated_in at_setup Setup ∷ map stated_step d.setup) ++ stated_in line Body ∷ map stated_step steps) (sym body),
-        unasked,
-      ),
-    )
-body_stands p q stated d line h next = absurd (none-some q next)
+pub sector_taken : (stated : List Stated) (d e : Draft) (line size : ℕ) (q : Stage) → IsDraft stated d → IsExpected d q (Sector size)
+    → 1 ≤ size → size ≤ d.block → e ≡ record d { stage = q; sector = size } → IsTaken stated line (Sector size) e
+sector_taken stated d e line size q h x some few is =
+    let s = Sector size in
+    let at = sector_stands d.stage q stated d line size h.stands x.leads in
+    let same = h.block in
+    subst (λ (y : Draft). IsTaken stated line s y) (sym is) (sized_taken stated d line s q d.block size h x at.0 at.1 refl some few h.small_block
+    (ranges (statements stated) s x.in_range (λ b. elim b [ inl none ↦ omega arith | inr many ↦ omega arith ])) (λ b. b) (λ b. b) (λ b. b))
 
--- a draft of which only the place changes
-part_taken : (stated : List Stated) (d e : Draft) (line : ℕ) (s : Statement) (q : Place) → IsDraft stated d → Stands (statements stated) s
-    → (d.place ≢ Start) × StandsAt q (stated ++ stated_in line s ∷ []) (record d { place = q }) → (IsOutOfRange s → ⊥)
-    → Lacks (statements stated) s NotHere → Lacks (statements stated) s TooLong → Lacks (statements stated) s BadPredicate
-    → e ≡ record d { place = q } → IsTaken stated line s e
-part_taken stated d e line s q h may_be at range here long asks is =
-    subst (λ (x : Draft). IsTaken stated line s x) (sym is) (record {
-      sound = sound (statements stated) s (stands (statements stated) s may_be) range here long asks;
-      kept = record {
-        stands = at.1;
-        named = λ n. h.named at.0;
-        some_block = h.some_block;
-        block = h.block;
-        in_range = more_in_range stated line s h.in_range range;
-        setup = h.setup;
-        few_setup = h.few_setup;
-        body = h.body;
-        few_body = h.few_body;
-        changes = h.changes;
-      };
-    })
+pub sector_fault : (stated : List Stated) (d : Draft) (size : ℕ) (q : Stage) → IsDraft stated d → IsExpected d q (Sector size)
+    → (size ≡ 0) ⊎ (d.block < size) → IsFirstKind (statements stated) (Sector size) NumberRange
+sector_fault stated d size q h x bad =
+    fault_range (statements stated) (Sector size) (has stated d 0 (Sector size) q h x) (order stated d 0 (Sector size) q h x)
+    (inr (subst (λ (b : ℕ). (size ≡ 0) ⊎ (b < size)) h.block bad))
 
-pub setup_taken : (stated : List Stated) (d e : Draft) (line : ℕ) (q : Place) → IsDraft stated d → place_behind d.place form.Setup ≡ Some q
-    → AreInRange (statement_lexemes Setup) → e ≡ record d { place = q } → IsTaken stated line Setup e
-setup_taken stated d e line q h next small is =
-    part_taken stated d e line Setup q h (may stated d Setup q h next) (setup_stands d.place q stated d line h.stands next)
-    (ranges Setup small (λ b. b)) (λ b. b) (λ b. b) (λ b. b) is
+-- a stage that the setup or the body may follow
+abbrev IsEarly : Stage → Type 0
+IsEarly p = (p ≢ Start) × (p ≢ InBody) × (p ≢ End)
 
-pub body_taken : (stated : List Stated) (d e : Draft) (line : ℕ) (q : Place) → IsDraft stated d → place_behind d.place form.Body ≡ Some q
-    → AreInRange (statement_lexemes Body) → e ≡ record d { place = q } → IsTaken stated line Body e
-body_taken stated d e line q h next small is =
-    part_taken stated d e line Body q h (may stated d Body q h next) (body_stands d.place q stated d line h.stands next)
-    (ranges Body small (λ b. b)) (λ b. b) (λ b. b) (λ b. b) is
+-- there, only lines before the setup stand, or the setup
+front_kept : (p : Stage) (stated : List Stated) (d : Draft) → IsEarly p → StandsAt p stated d
+    → (p ≡ InSetup) ⊎ (IsFront stated d.name d.version d.block d.sector × IsCallless d)
+front_kept Start stated d is_early h = absurd (is_early.0 refl)
+front_kept BehindHead stated d is_early (head, number, is, version, block, sector, callless) = inr (
+  record {
+    head_line = head;
+    number = number;
+    block_part = [];
+    sector_part = [];
+    order = is;
+    has_version = version;
+    has_block = inl (refl, block);
+    has_sector = inl (refl, sector);
+  },
+  callless,
+)
+front_kept BehindBlock stated d is_early (head, at_block, number, is, version, sector, callless) = inr (
+  record {
+    head_line = head;
+    number = number;
+    block_part = stated_in at_block (Block d.block) ∷ [];
+    sector_part = [];
+    order = is;
+    has_version = version;
+    has_block = inr (at_block, refl);
+    has_sector = inl (refl, sector);
+  },
+  callless,
+)
+front_kept BehindSector stated d is_early h = inr h
+front_kept InSetup stated d is_early h = inl refl
+front_kept InBody stated d is_early h = absurd (is_early.1 refl)
+front_kept End stated d is_early h = absurd (is_early.2 refl)
 
--- a call stands in the setup or in the body
-pub call_place : (p q : Place) → place_behind p form.Call ≡ Some q → ((p ≡ InSetup) × (q ≡ InSetup)) ⊎ ((p ≡ InBody) × (q ≡ InBody))
-call_place InSetup q next = inl (refl, sym (same_Some InSetup q next))
-call_place InBody q next = inr (refl, sym (same_Some InBody q next))
-call_place p q next = absurd (none-some q next)
+-- the setup begins, or the body
+setup_next : (p q : Stage) → stage_behind p form.Setup ≡ Some q → IsEarly p × (p ≢ InSetup) × (InSetup ≡ q)
+setup_next BehindHead q next = ((λ e. absurd cc, λ e. absurd cc, λ e. absurd cc), (λ e. absurd cc), same_Some InSetup q next)
+setup_next BehindBlock q next = ((λ e. absurd cc, λ e. absurd cc, λ e. absurd cc), (λ e. absurd cc), same_Some InSetup q next)
+setup_next BehindSector q next = ((λ e. absurd cc, λ e. absurd cc, λ e. absurd cc), (λ e. absurd cc), same_Some InSetup q next)
+setup_next p q next = absurd (none-some q next)
 
-pub in_body : (p q : Place) → place_behind p form.Call ≡ Some q → q ≡ InBody → p ≡ InBody
-in_body p q next is = elim (call_place p q next) [ inl both ↦ let e : InSetup ≡ InBody = sym both.1 ∙ is in absurd cc | inr both ↦ both.0 ]
+body_next : (p q : Stage) → stage_behind p form.Body ≡ Some q → IsEarly p × (InBody ≡ q)
+body_next BehindHead q next = ((λ e. absurd cc, λ e. absurd cc, λ e. absurd cc), same_Some InBody q next)
+body_next BehindBlock q next = ((λ e. absurd cc, λ e. absurd cc, λ e. absurd cc), same_Some InBody q next)
+body_next BehindSector q next = ((λ e. absurd cc, λ e. absurd cc, λ e. absurd cc), same_Some InBody q next)
+body_next InSetup q next = ((λ e. absurd cc, λ e. absurd cc, λ e. absurd cc), same_Some InBody q next)
+body_next p q next = absurd (none-some q next)
 
-pub in_setup : (p q : Place) → place_behind p form.Call ≡ Some q → (q ≡ InBody → ⊥) → (p ≡ InSetup) × (q ≡ InSetup)
-in_setup p q next other = elim (call_place p q next) [ inl both ↦ both | inr both ↦ absurd (other both.1) ]
+setup_stands : (q : Stage) (stated : List Stated) (d : Draft) (line : ℕ) → StandsAt d.stage stated d → stage_behind d.stage form.Setup ≡ Some q
+    → (d.stage ≢ Start) × StandsAt q (stated ++ stated_in line Setup ∷ []) (record d { stage = q })
+setup_stands q stated d line h next =
+    let to = setup_next d.stage q next in
+    elim (front_kept d.stage stated d to.0 h) [
+      | inl at ↦ absurd (to.1 at)
+      | inr (front, callless) ↦ (
+        to.0.0,
+        subst (λ (r : Stage). StandsAt r (stated ++ stated_in line Setup ∷ []) (record d { stage = q })) to.2 (
+          stated,
+          line,
+          front,
+          ap (λ (steps : List Step). stated ++ stated_in line Setup ∷ map stated_step steps) (sym callless.0),
+          callless.1,
+          callless.2,
+        ),
+      )
+    ]
 
--- a call of formed tokens is formed, where their numbers are in range
-number_formed : (n : ℕ) → n < 2 ^ 32 → is_number n ≡ true
-number_formed n h = lt-ltb n (2 ^ 32) h
-
-pub call_formed : (c : Call) → All (λ l. IsTrue (is_formed l)) (call_lexemes c) → AreInRange (call_lexemes c) → IsTrue (is_formed_call c)
-call_formed (call.Mkdir path) all small = all 1 (Sign 0) (omega arith)
-call_formed (call.Create path) all small = all 1 (Sign 0) (omega arith)
-call_formed (call.Write path at text) all small =
-    and_from (is_formed_path path && is_number at) (is_byte_text text)
-    (and_from (is_formed_path path) (is_number at) (all 1 (Sign 0) (omega arith)) (number_formed at (small at (2, omega arith, refl)))) (all 3 (Sign 0) (omega arith))
-call_formed (call.Append path text) all small = and_from (is_formed_path path) (is_byte_text text) (all 1 (Sign 0) (omega arith)) (all 2 (Sign 0) (omega arith))
-call_formed (call.Truncate path size) all small =
-    and_from (is_formed_path path) (is_number size) (all 1 (Sign 0) (omega arith)) (number_formed size (small size (2, omega arith, refl)))
-call_formed (call.Link from to) all small = and_from (is_formed_path from) (is_formed_path to) (all 1 (Sign 0) (omega arith)) (all 2 (Sign 0) (omega arith))
-call_formed (call.Unlink path) all small = all 1 (Sign 0) (omega arith)
-call_formed (call.Rename from to) all small = and_from (is_formed_path from) (is_formed_path to) (all 1 (Sign 0) (omega arith)) (all 2 (Sign 0) (omega arith))
-call_formed (call.Attr path key value) all small =
-    and_from (is_formed_path path && is_word key) (is_number value)
-    (and_from (is_formed_path path) (is_word key) (all 1 (Sign 0) (omega arith)) (all 2 (Sign 0) (omega arith))) (number_formed value (small value (3, omega arith, refl)))
-call_formed (call.Fsync path) all small = all 1 (Sign 0) (omega arith)
-call_formed (call.FsyncDir path) all small = all 1 (Sign 0) (omega arith)
-call_formed call.Sync all small = refl
-call_formed (call.Mark word) all small = all 1 (Sign 0) (omega arith)
-
--- a call of the setup
-pub setup_call_stands : (stated : List Stated) (d : Draft) (line : ℕ) (c : Call) → StandsAt InSetup stated d
-    → StandsAt InSetup (stated ++ stated_in line (Called c) ∷ []) (record d { setup = d.setup ++ step_in line c ∷ [] })
-setup_call_stands stated d line c (head, at_setup, block, b, is, body, unasked) =
-    let front = stated_in head (Head d.name) ∷ block in (
-      head,
-      at_setup,
-      block,
-      b,
-      ap (λ (st : List Stated). st ++ stated_in line (Called c) ∷ []) is
-          ∙ append_assoc front (stated_in at_setup Setup ∷ map stated_step d.setup) (stated_in line (Called c) ∷ [])
-          ∙ ap (λ (ss : List Stated). front ++ stated_in at_setup Setup ∷ ss) (sym (map-append stated_step d.setup (step_in line c ∷ []))),
-      body,
+body_stands : (q : Stage) (stated : List Stated) (d : Draft) (line : ℕ) → StandsAt d.stage stated d → stage_behind d.stage form.Body ≡ Some q
+    → (d.stage ≢ Start) × StandsAt q (stated ++ stated_in line Body ∷ []) (record d { stage = q })
+body_stands q stated d line h next =
+    let to = body_next d.stage q next in
+    let at : StandsAt InBody (stated ++ stated_in line Body ∷ []) (record d { stage = q }) → StandsAt q (stated ++ stated_in line Body ∷ []) (record d { stage = q }) =
+    subst (λ (r : Stage). StandsAt r (stated ++ stated_in line Body ∷ []) (record d { stage = q })) to.1 in
+    elim (front_kept d.stage stated d to.0 h) [
+      | inl inside ↦ (to.0.0, at (from_setup (subst (λ (p : Stage). StandsAt p stated d) inside h)))
+      | inr (front, callless) ↦ (
+        to.0.0,
+        at (
+          stated,
+          [],
+          line,
+          front,
+          inl (refl, callless.0),
+          ap (λ (steps : List Step). stated ++ stated_in line Body ∷ map stated_step steps) (sym callless.1)
+              ∙ ap (λ (st : List Stated). st ++ stated_in line Body ∷ map stated_step d.body) (sym (append-nil stated)),
+          callless.2,
+        ),
+      )
+    ]
+  where
+    from_setup : StandsAt InSetup stated d → StandsAt InBody (stated ++ stated_in line Body ∷ []) (record d { stage = q })
+    from_setup (front, at_setup, f, is, body, unasked) = (
+      front,
+      stated_in at_setup Setup ∷ map stated_step d.setup,
+      line,
+      f,
+      inr (at_setup, refl),
+      ap (λ (st : List Stated). st ++ stated_in line Body ∷ []) is
+          ∙ ap (λ (steps : List Step). front ++ (stated_in at_setup Setup ∷ map stated_step d.setup) ++ stated_in line Body ∷ map stated_step steps) (sym body),
       unasked,
     )
 
-pub body_call_stands : (stated : List Stated) (d : Draft) (line n : ℕ) (c : Call) → StandsAt InBody stated d
-    → StandsAt InBody (stated ++ stated_in line (Called c) ∷ []) (record d { body = d.body ++ step_in line c ∷ []; changes = n })
-body_call_stands stated d line n c (head, at_body, block, setup, b, s, is, unasked) =
-    let front = stated_in head (Head d.name) ∷ block ++ setup in (
-      head,
-      at_body,
-      block,
-      setup,
-      b,
-      s,
-      ap (λ (st : List Stated). st ++ stated_in line (Called c) ∷ []) is
-          ∙ append_assoc front (stated_in at_body Body ∷ map stated_step d.body) (stated_in line (Called c) ∷ [])
-          ∙ ap (λ (ss : List Stated). front ++ stated_in at_body Body ∷ ss) (sym (map-append stated_step d.body (step_in line c ∷ []))),
-      unasked,
-    )
+pub setup_taken : (stated : List Stated) (d e : Draft) (line : ℕ) (q : Stage) → IsDraft stated d → IsExpected d q Setup → e ≡ record d { stage = q }
+    → IsTaken stated line Setup e
+setup_taken stated d e line q h x is =
+    let at = setup_stands q stated d line h.stands x.leads in
+    subst (λ (y : Draft). IsTaken stated line Setup y) (sym is) (sized_taken stated d line Setup q d.block d.sector h x at.0 at.1 refl h.some_sector h.small_sector h.small_block
+    (ranges (statements stated) Setup x.in_range (λ b. b)) (λ b. b) (λ b. b) (λ b. b))
 
--- one more call
-pub length-more : (steps : List Step) (step : Step) → length (steps ++ step ∷ []) ≡ length steps + 1
-length-more steps step = length-append steps (step ∷ [])
-
-abbrev pub changes_of : List Step → ℕ
-changes_of steps = length (sync_free (map (λ step. step.call) steps))
-
-one_change : (c : Call) (b : Bool) → is_sync c ≡ b → length (sync_free (c ∷ [])) ≡ (if b then 0 else 1)
-one_change c true h = ap (λ (x : Bool). length (cond (not x) (c ∷ []) [])) h
-one_change c false h = ap (λ (x : Bool). length (cond (not x) (c ∷ []) [])) h
-
-pub changes-more : (steps : List Step) (line : ℕ) (c : Call) (b : Bool) → is_sync c ≡ b
-    → changes_of (steps ++ step_in line c ∷ []) ≡ changes_of steps + (if b then 0 else 1)
-changes-more steps line c b h =
-    let calls = map (λ (step : Step). step.call) steps in
-    ap (λ (cs : List Call). length (sync_free cs)) (map-append (λ (step : Step). step.call) steps (step_in line c ∷ []))
-    ∙ ap (λ (cs : List Call). length cs) (filter-append (λ (x : Call). not (is_sync x)) calls (c ∷ []))
-    ∙ length-append (sync_free calls) (sync_free (c ∷ []))
-    ∙ ap (λ (n : ℕ). length (sync_free calls) + n) (one_change c b h)
-
--- what is known of the line that a draft takes
-abbrev pub Known : Draft → Place → Statement → Type 0
-Known d q s = (place_behind d.place (form_of s) ≡ Some q) × All (λ l. IsTrue (is_formed l)) (statement_lexemes s) × AreInRange (statement_lexemes s)
+pub body_taken : (stated : List Stated) (d e : Draft) (line : ℕ) (q : Stage) → IsDraft stated d → IsExpected d q Body → e ≡ record d { stage = q }
+    → IsTaken stated line Body e
+body_taken stated d e line q h x is =
+    let at = body_stands q stated d line h.stands x.leads in
+    subst (λ (y : Draft). IsTaken stated line Body y) (sym is) (sized_taken stated d line Body q d.block d.sector h x at.0 at.1 refl h.some_sector h.small_sector h.small_block
+    (ranges (statements stated) Body x.in_range (λ b. b)) (λ b. b) (λ b. b) (λ b. b))

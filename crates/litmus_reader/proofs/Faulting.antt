@@ -1,18 +1,24 @@
 -- Which fault of a statement is answered, and when there is none.
-use Rattle.std.proofs.Common.{◌≡◌, ◌⊎◌, ℕ, zero, suc, ◌^◌, ◌<◌, ◌≤◌, List, [], ◌∷◌, map, refl, subst, inl, inr, arith}
+use Rattle.std.proofs.Common.{◌≡◌, ◌⊎◌, ℕ, zero, suc, ◌<◌, Bool, true, false, List, [], ◌∷◌, map, Some, None, refl, sym, ◌∙◌, ap, subst, inl, inr, arith}
 use Rattle.std.specs.List.{Contains}
-use Rattle.std.proofs.lemmas.Bool.{cases_lt}
-use Rattle.std.proofs.lemmas.List.Elements.{All-nil, All-cons}
+use Rattle.std.proofs.lemmas.Bool.{false≢true}
+use Rattle.std.proofs.lemmas.List.Elements.{All-nil, All-cons, All-weaker}
+use Rattle.litmus_syntax.specs.declared.call.Call.TheVariants as call
 use Rattle.lexeme_reader.specs.declared.reading.Lexeme.{Lexeme}
 use Rattle.lexeme_reader.specs.declared.reading.Lexeme.TheVariants.{Number}
+use Rattle.lexeme_reader.specs.Lexemes.{AreLexemes}
+use Rattle.predicate_reader.specs.Predicates.{AreInRange}
 use Rattle.litmus_reader.specs.declared.fault.LitmusKind.{LitmusKind}
 use Rattle.litmus_reader.specs.declared.fault.LitmusKind.TheVariants.{BadByte, BadToken, BadLine, OutOfOrder, NumberRange, NotHere, BadPredicate, EndsEarly, TooLong}
+use Rattle.litmus_reader.specs.declared.statements.Form.{Form}
 use Rattle.litmus_reader.specs.Places.{MayStand}
-use Rattle.litmus_reader.specs.Statements.{Statement, statement_lexemes, form_of}
-use Rattle.predicate_reader.specs.Predicates.{AreInRange}
-use Rattle.litmus_reader.specs.Faults.{IsBadBlock, IsOutOfRange, Has, IsSound}
-use Rattle.litmus_reader.specs.FirstFaults.{IsFault, IsLineFault}
-use Rattle.lexeme_reader.specs.Lexemes.{AreLexemes}
+use Rattle.litmus_reader.specs.Statements.{Statement, Head, Block, Sector, Setup, Body, Called, Question, statement_lexemes, form_of}
+use Rattle.litmus_reader.specs.Calls.{begins_body, body_calls}
+use Rattle.litmus_syntax.specs.Transactions.{is_open}
+use Rattle.litmus_reader.specs.Versions.{version_of, version_has}
+use Rattle.litmus_reader.specs.Faults.{pairs, HasWide, IsBadSize, IsNotHere, IsTooLong, AsksNothing, Has, IsSound}
+use Rattle.litmus_reader.specs.FirstFaults.{IsFirstKind, IsLineFault}
+use Rattle.litmus_reader.specs.Read.{numberless}
 use Rattle.litmus_reader.specs.TakenLines.{IsFaultIn}
 
 -- it may stand here
@@ -22,71 +28,92 @@ Stands before s = MayStand (map form_of before) (form_of s)
 abbrev pub Lacks : List Statement → Statement → LitmusKind → Type 0
 Lacks before s kind = Has before s kind → ⊥
 
-pub sound : (before : List Statement) (s : Statement) → Lacks before s OutOfOrder → Lacks before s NumberRange → Lacks before s NotHere
-    → Lacks before s TooLong → Lacks before s BadPredicate → IsSound before s
-sound before s order range here long asks BadByte h = h
-sound before s order range here long asks BadToken h = h
-sound before s order range here long asks BadLine h = h
-sound before s order range here long asks EndsEarly h = h
-sound before s order range here long asks OutOfOrder h = order h
-sound before s order range here long asks NumberRange h = range h
-sound before s order range here long asks NotHere h = here h
-sound before s order range here long asks TooLong h = long h
-sound before s order range here long asks BadPredicate h = asks h
+pub sound : (before : List Statement) (s : Statement) → Lacks before s BadLine → Lacks before s OutOfOrder → Lacks before s NumberRange
+    → Lacks before s NotHere → Lacks before s TooLong → Lacks before s BadPredicate → IsSound before s
+sound before s known order range here long asks BadByte h = h
+sound before s known order range here long asks BadToken h = h
+sound before s known order range here long asks EndsEarly h = h
+sound before s known order range here long asks BadLine h = known h
+sound before s known order range here long asks OutOfOrder h = order h
+sound before s known order range here long asks NumberRange h = range h
+sound before s known order range here long asks NotHere h = here h
+sound before s known order range here long asks TooLong h = long h
+sound before s known order range here long asks BadPredicate h = asks h
 
-pub stands : (before : List Statement) (s : Statement) → Stands before s → Lacks before s OutOfOrder
-stands before s may out = out may
+-- a file of this version has the statement
+pub known : (before : List Statement) (s : Statement) → version_has (version_of before) s ≡ true → Lacks before s BadLine
+known before s has none = false≢true (sym none ∙ has)
 
--- numbers in range, and a block that may be had
-pub ranges : (s : Statement) → AreInRange (statement_lexemes s) → (IsBadBlock s → ⊥) → IsOutOfRange s → ⊥
-ranges s small block (inl (n, there, wide)) = let below = small n there in omega arith
-ranges s small block (inr bad) = block bad
+-- it may stand here, and transactions allow it
+pub ordered : (before : List Statement) (s : Statement) → Stands before s → (begins_body before ≡ true → pairs (is_open (body_calls before)) s ≡ true)
+    → Lacks before s OutOfOrder
+ordered before s may paired (inl out) = out may
+ordered before s may paired (inr (begun, unpaired)) = false≢true (sym unpaired ∙ paired begun)
 
-pub fault_order : (before : List Statement) (s : Statement) → Has before s OutOfOrder → IsFault before s OutOfOrder
-fault_order before s h = ([], NumberRange ∷ NotHere ∷ TooLong ∷ BadPredicate ∷ [], refl, All-nil (Lacks before s), h)
+-- numbers in range, and a size that may be had
+pub ranges : (before : List Statement) (s : Statement) → AreInRange (statement_lexemes s) → (IsBadSize before s → ⊥) → Lacks before s NumberRange
+ranges before s small size (inl wide) = small wide
+ranges before s small size (inr bad) = size bad
 
-pub fault_range : (before : List Statement) (s : Statement) → Lacks before s OutOfOrder → Has before s NumberRange → IsFault before s NumberRange
-fault_range before s order h =
-    (OutOfOrder ∷ [], NotHere ∷ TooLong ∷ BadPredicate ∷ [], refl, All-cons (Lacks before s) OutOfOrder [] order (All-nil (Lacks before s)), h)
+pub fault_foreign : (before : List Statement) (s : Statement) → Has before s BadLine → IsFirstKind before s BadLine
+fault_foreign before s h = ([], OutOfOrder ∷ NumberRange ∷ NotHere ∷ TooLong ∷ BadPredicate ∷ [], refl, All-nil (Lacks before s), h)
 
-pub fault_here : (before : List Statement) (s : Statement) → Lacks before s OutOfOrder → Lacks before s NumberRange → Has before s NotHere → IsFault before s NotHere
-fault_here before s order range h =
+pub fault_order : (before : List Statement) (s : Statement) → Lacks before s BadLine → Has before s OutOfOrder → IsFirstKind before s OutOfOrder
+fault_order before s has h =
+    (BadLine ∷ [], NumberRange ∷ NotHere ∷ TooLong ∷ BadPredicate ∷ [], refl, All-cons (Lacks before s) BadLine [] has (All-nil (Lacks before s)), h)
+
+pub fault_range : (before : List Statement) (s : Statement) → Lacks before s BadLine → Lacks before s OutOfOrder → Has before s NumberRange
+    → IsFirstKind before s NumberRange
+fault_range before s has order h =
     let P = Lacks before s in (
-      OutOfOrder ∷ NumberRange ∷ [],
+      BadLine ∷ OutOfOrder ∷ [],
+      NotHere ∷ TooLong ∷ BadPredicate ∷ [],
+      refl,
+      All-cons P BadLine (OutOfOrder ∷ []) has (All-cons P OutOfOrder [] order (All-nil P)),
+      h,
+    )
+
+pub fault_here : (before : List Statement) (s : Statement) → Lacks before s BadLine → Lacks before s OutOfOrder → Lacks before s NumberRange
+    → Has before s NotHere → IsFirstKind before s NotHere
+fault_here before s has order range h =
+    let P = Lacks before s in (
+      BadLine ∷ OutOfOrder ∷ NumberRange ∷ [],
       TooLong ∷ BadPredicate ∷ [],
       refl,
-      All-cons P OutOfOrder (NumberRange ∷ []) order (All-cons P NumberRange [] range (All-nil P)),
+      All-cons P BadLine (OutOfOrder ∷ NumberRange ∷ []) has (All-cons P OutOfOrder (NumberRange ∷ []) order (All-cons P NumberRange [] range (All-nil P))),
       h,
     )
 
-pub fault_long : (before : List Statement) (s : Statement) → Lacks before s OutOfOrder → Lacks before s NumberRange → Lacks before s NotHere
-    → Has before s TooLong → IsFault before s TooLong
-fault_long before s order range here h =
+pub fault_long : (before : List Statement) (s : Statement) → Lacks before s BadLine → Lacks before s OutOfOrder → Lacks before s NumberRange
+    → Lacks before s NotHere → Has before s TooLong → IsFirstKind before s TooLong
+fault_long before s has order range here h =
     let P = Lacks before s in (
-      OutOfOrder ∷ NumberRange ∷ NotHere ∷ [],
+      BadLine ∷ OutOfOrder ∷ NumberRange ∷ NotHere ∷ [],
       BadPredicate ∷ [],
       refl,
-      All-cons P OutOfOrder (NumberRange ∷ NotHere ∷ []) order (All-cons P NumberRange (NotHere ∷ []) range (All-cons P NotHere [] here (All-nil P))),
+      All-cons P BadLine (OutOfOrder ∷ NumberRange ∷ NotHere ∷ []) has (All-cons P OutOfOrder (NumberRange ∷ NotHere ∷ []) order
+          (All-cons P NumberRange (NotHere ∷ []) range (All-cons P NotHere [] here (All-nil P)))),
       h,
     )
 
-pub fault_asks : (before : List Statement) (s : Statement) → Lacks before s OutOfOrder → Lacks before s NumberRange → Lacks before s NotHere
-    → Lacks before s TooLong → Has before s BadPredicate → IsFault before s BadPredicate
-fault_asks before s order range here long h =
+pub fault_asks : (before : List Statement) (s : Statement) → Lacks before s BadLine → Lacks before s OutOfOrder → Lacks before s NumberRange
+    → Lacks before s NotHere → Lacks before s TooLong → Has before s BadPredicate → IsFirstKind before s BadPredicate
+fault_asks before s has order range here long h =
     let P = Lacks before s in (
-      OutOfOrder ∷ NumberRange ∷ NotHere ∷ TooLong ∷ [],
+      BadLine ∷ OutOfOrder ∷ NumberRange ∷ NotHere ∷ TooLong ∷ [],
       [],
       refl,
-      All-cons P OutOfOrder (NumberRange ∷ NotHere ∷ TooLong ∷ []) order (All-cons P NumberRange (NotHere ∷ TooLong ∷ []) range
-          (All-cons P NotHere (TooLong ∷ []) here (All-cons P TooLong [] long (All-nil P)))),
+      All-cons P BadLine (OutOfOrder ∷ NumberRange ∷ NotHere ∷ TooLong ∷ []) has
+          (All-cons P OutOfOrder (NumberRange ∷ NotHere ∷ TooLong ∷ []) order (All-cons P NumberRange (NotHere ∷ TooLong ∷ []) range
+          (All-cons P NotHere (TooLong ∷ []) here (All-cons P TooLong [] long (All-nil P))))),
       h,
     )
 
--- the fault of a statement is that of the line that says it
+-- the fault of a statement is that of the tokens that say it
 pub fault_in : (before : List Statement) (lexemes : List Lexeme) (s : Statement) (kind : LitmusKind) → lexemes ≡ statement_lexemes s
-    → IsFault before s kind → IsFaultIn before lexemes kind
-fault_in before lexemes s BadLine e h = absurd (h.4)
-fault_in before lexemes s kind e h = (s, e, h)
+    → (kind ≡ BadLine → ⊥) → IsFirstKind before s kind → IsFaultIn before lexemes kind
+fault_in before lexemes s BadLine e other h = absurd (other refl)
+fault_in before lexemes s kind e other h = (s, e, h)
 
 contains_cases : (x : Lexeme) (xs : List Lexeme) (y : Lexeme) → Contains (x ∷ xs) y → (x ≡ y) ⊎ Contains xs y
 contains_cases x xs y (zero, within, at) = inl at
@@ -95,32 +122,25 @@ contains_cases x xs y (suc k, within, at) = inr (k, omega arith, at)
 contains_later : (x : Lexeme) (xs : List Lexeme) (y : Lexeme) → Contains xs y → Contains (x ∷ xs) y
 contains_later x xs y (k, within, at) = (suc k, omega arith, at)
 
--- a number above 2^32 - 1 among the tokens
-abbrev pub HasWide : List Lexeme → Type 0
-HasWide lexemes = (n : ℕ) × Contains lexemes (Number n) × (2 ^ 32 ≤ n)
-
-one_wide : (l : Lexeme) → ((n : ℕ) × (l ≡ Number n) × (2 ^ 32 ≤ n)) ⊎ ((n : ℕ) → l ≡ Number n → n < 2 ^ 32)
-one_wide (Number m) = elim (cases_lt m (2 ^ 32)) [
-  | inl below ↦ inr (λ n e. let same : m ≡ n = cc in omega arith)
-  | inr above ↦ inl (m, refl, above)
-]
-one_wide l = inr (λ n e. absurd cc)
+one_wide : (l : Lexeme) → (l ≡ Number None) ⊎ (l ≡ Number None → ⊥)
+one_wide (Number None) = inl refl
+one_wide l = inr (λ e. absurd cc)
 
 -- numbers are in range, or one isn't
-pub wide_or_small : (lexemes : List Lexeme) → HasWide lexemes ⊎ AreInRange lexemes
-wide_or_small [] = inr (λ n there. absurd (let within = there.1 in omega arith))
+pub wide_or_small : (lexemes : List Lexeme) → Contains lexemes (Number None) ⊎ AreInRange lexemes
+wide_or_small [] = inr (λ there. absurd (let within = there.1 in omega arith))
 wide_or_small (l ∷ ls) = elim (one_wide l) [
-  | inl (n, here, large) ↦ inl (n, (0, omega arith, here), large)
+  | inl here ↦ inl (0, omega arith, here)
   | inr small ↦ elim (wide_or_small ls) [
-    | inl (n, there, large) ↦ inl (n, contains_later l ls (Number n) there, large)
-    | inr others ↦ inr (λ n there. elim (contains_cases l ls (Number n) there) [ inl here ↦ small n here | inr later ↦ others n later ])
+    | inl there ↦ inl (contains_later l ls (Number None) there)
+    | inr others ↦ inr (λ there. elim (contains_cases l ls (Number None) there) [ inl here ↦ small here | inr later ↦ others later ])
   ]
 ]
 
 -- the tokens of a statement have a number above 2^32 - 1
-pub wide : (lexemes : List Lexeme) (s : Statement) → lexemes ≡ statement_lexemes s → (AreInRange lexemes → ⊥) → IsOutOfRange s
+pub wide : (lexemes : List Lexeme) (s : Statement) → lexemes ≡ statement_lexemes s → (AreInRange lexemes → ⊥) → HasWide s
 wide lexemes s e none = elim (wide_or_small lexemes) [
-  | inl (n, there, large) ↦ inl (n, subst (λ (ls : List Lexeme). Contains ls (Number n)) e there, large)
+  | inl there ↦ subst (λ (ls : List Lexeme). Contains ls (Number None)) e there
   | inr small ↦ absurd (none small)
 ]
 
@@ -131,3 +151,81 @@ line_fault before line lexemes BadByte are some h = absurd (h.2.4)
 line_fault before line lexemes BadToken are some h = absurd (h.2.4)
 line_fault before line lexemes BadLine are some h = (lexemes, are, some, h)
 line_fault before line lexemes kind are some h = (h.0, subst (λ (ls : List Lexeme). AreLexemes line ls) h.1 are, h.2)
+
+-- what is asked of a statement but its numbers is asked of it without them
+same_version : (version : ℕ) (s : Statement) → version_has version s ≡ version_has version (numberless s)
+same_version version (Head name None) = refl
+same_version version (Head name (Some named)) = refl
+same_version version (Called (call.Write path at text)) = refl
+same_version version (Called (call.Truncate path size)) = refl
+same_version version (Called (call.Attr path key value)) = refl
+same_version version (Called c) = refl
+same_version version s = refl
+
+-- statements that are alike but for their numbers are of the same versions
+pub alike_version : (version : ℕ) (s t : Statement) → numberless s ≡ numberless t → version_has version s ≡ version_has version t
+alike_version version s t e = same_version version s ∙ ap (version_has version) e ∙ sym (same_version version t)
+
+pub alike_form : (s t : Statement) → numberless s ≡ numberless t → form_of s ≡ form_of t
+alike_form s t e = same_form s ∙ ap form_of e ∙ sym (same_form t)
+  where
+    same_form : (u : Statement) → form_of u ≡ form_of (numberless u)
+    same_form (Block size) = refl
+    same_form (Sector size) = refl
+    same_form (Called c) = refl
+    same_form (Head name version) = refl
+    same_form Setup = refl
+    same_form Body = refl
+    same_form (Question want asked) = refl
+
+pub alike_pairs : (inside : Bool) (s t : Statement) → numberless s ≡ numberless t → pairs inside s ≡ pairs inside t
+alike_pairs inside s t e = same_pairs s ∙ ap (pairs inside) e ∙ sym (same_pairs t)
+  where
+    same_pairs : (u : Statement) → pairs inside u ≡ pairs inside (numberless u)
+    same_pairs (Called (call.Write path at text)) = refl
+    same_pairs (Called (call.Truncate path size)) = refl
+    same_pairs (Called (call.Attr path key value)) = refl
+    same_pairs (Called c) = refl
+    same_pairs u = refl
+
+-- whether a call stands where it may, and what is counted or asked, doesn't depend on numbers
+no_numbers : (before : List Statement) (u : Statement) → (IsNotHere before u → IsNotHere before (numberless u)) × (IsNotHere before (numberless u) → IsNotHere before u)
+    × (IsTooLong before u → IsTooLong before (numberless u)) × (IsTooLong before (numberless u) → IsTooLong before u)
+    × (AsksNothing u → AsksNothing (numberless u)) × (AsksNothing (numberless u) → AsksNothing u)
+no_numbers before (Head name version) = (λ x. x, λ x. x, λ x. x, λ x. x, λ x. x, λ x. x)
+no_numbers before (Block size) = (λ x. x, λ x. x, λ x. x, λ x. x, λ x. x, λ x. x)
+no_numbers before (Sector size) = (λ x. x, λ x. x, λ x. x, λ x. x, λ x. x, λ x. x)
+no_numbers before Setup = (λ x. x, λ x. x, λ x. x, λ x. x, λ x. x, λ x. x)
+no_numbers before Body = (λ x. x, λ x. x, λ x. x, λ x. x, λ x. x, λ x. x)
+no_numbers before (Called (call.Write path at text)) = (λ x. x, λ x. x, λ x. x, λ x. x, λ x. x, λ x. x)
+no_numbers before (Called (call.Truncate path size)) = (λ x. x, λ x. x, λ x. x, λ x. x, λ x. x, λ x. x)
+no_numbers before (Called (call.Attr path key value)) = (λ x. x, λ x. x, λ x. x, λ x. x, λ x. x, λ x. x)
+no_numbers before (Called c) = (λ x. x, λ x. x, λ x. x, λ x. x, λ x. x, λ x. x)
+no_numbers before (Question want asked) = (λ x. x, λ x. x, λ x. x, λ x. x, λ x. x, λ x. x)
+
+alike_has : (before : List Statement) (s t : Statement) → numberless s ≡ numberless t → HasWide t → (kind : LitmusKind) → Has before s kind → Has before t kind
+alike_has before s t e large BadByte h = h
+alike_has before s t e large BadToken h = h
+alike_has before s t e large EndsEarly h = h
+alike_has before s t e large BadLine h = sym (alike_version (version_of before) s t e) ∙ h
+alike_has before s t e large OutOfOrder (inl out) =
+    inl (λ may. out (subst (λ (f : Form). MayStand (map form_of before) f) (sym (alike_form s t e)) may))
+alike_has before s t e large OutOfOrder (inr (begun, unpaired)) = inr (begun, sym (alike_pairs (is_open (body_calls before)) s t e) ∙ unpaired)
+alike_has before s t e large NumberRange h = inl large
+alike_has before s t e large NotHere h =
+    (no_numbers before t).1 (subst (λ (u : Statement). IsNotHere before u) e ((no_numbers before s).0 h))
+alike_has before s t e large TooLong h =
+    (no_numbers before t).3 (subst (λ (u : Statement). IsTooLong before u) e ((no_numbers before s).2 h))
+alike_has before s t e large BadPredicate h =
+    (no_numbers before t).5 (subst (λ (u : Statement). AsksNothing u) e ((no_numbers before s).4 h))
+
+-- statements that are alike, each with a number above 2^32 - 1, have the same fault
+pub alike_fault : (before : List Statement) (s t : Statement) (kind : LitmusKind) → numberless s ≡ numberless t → HasWide s → HasWide t
+    → IsFirstKind before s kind → IsFirstKind before t kind
+alike_fault before s t kind e large larger (tried, others, cut, lacks, has) = (
+  tried,
+  others,
+  cut,
+  All-weaker (λ (k : LitmusKind). Has before s k → ⊥) (λ (k : LitmusKind). Has before t k → ⊥) (λ k none there. none (alike_has before t s (sym e) large k there)) tried lacks,
+  alike_has before s t e larger kind has,
+)

@@ -1,3 +1,4 @@
+pub mod Below
 pub mod Calling
 pub mod Deciding
 pub mod Drafting
@@ -5,11 +6,13 @@ pub mod Exact
 pub mod Faulting
 pub mod Finishing
 pub mod Fronts
+pub mod Keeping
 pub mod Leading
+pub mod Narrow
 pub mod OneLine
 pub mod OneReading
 pub mod OneRefusal
 pub mod OneTest
+pub mod Orders
 pub mod SoundTest
-pub mod Standing
 pub mod Stating

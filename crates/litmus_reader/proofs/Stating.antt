@@ -1,12 +1,7 @@
 -- What lines state, one line after the other.
-use Rattle.std.proofs.Common.{◌≡◌, ◌⊎◌, ℕ, Bool, ◌&&◌, ◌==◌, if◌then◌else◌, suc, ◌+◌, ◌<◌, ◌≤◌, List, [], ◌∷◌, ◌++◌, length, map, take, drop, get_or, refl, sym, ◌∙◌, ap, ap₂, subst, inl, inr, arith}
-use Rattle.std.proofs.Math.Seq.{drop-cons}
-use Rattle.std.specs.List.{range_with_len, onto_first, Contains}
-use Rattle.std.proofs.lemmas.Bool.{cond_both}
-use Rattle.std.proofs.lemmas.List.{take_more, take-append-drop, length-take, length-map, get_or-map}
-use Rattle.std.proofs.lemmas.List.FromFn.{get_or-range_with_len}
-use Rattle.text_scan.specs.declared.cutting.Line.{Line}
-use Rattle.text_scan.specs.Lines.{line_text, lines_of, feed_is_first}
+use Rattle.std.proofs.Common.{◌≡◌, ◌⊎◌, ℕ, Bool, ◌+◌, ◌<◌, ◌≤◌, List, [], ◌∷◌, ◌++◌, length, refl, sym, ◌∙◌, ap, ap₂, subst, inl, inr, append_assoc, append-nil, length-append, arith}
+use Rattle.std.specs.List.{Contains}
+use Rattle.text_scan.specs.Lines.{lines_of}
 use Rattle.lexeme_reader.specs.declared.reading.Lexeme.{Lexeme}
 use Rattle.lexeme_reader.specs.Lexemes.{AreLexemes}
 use Rattle.litmus_reader.specs.declared.draft.Draft.{Draft}
@@ -44,7 +39,7 @@ stated_more n m (l ∷ ls) line stated s (inr (first, others, first_says, rest, 
     )
 
 -- a cut of a list with one more at its end is a cut of the list, or stands at the end
-cut_last : (xs front behind : List Stated) (t s : Stated) → xs ++ t ∷ [] ≡ front ++ s ∷ behind
+pub cut_last : (xs front behind : List Stated) (t s : Stated) → xs ++ t ∷ [] ≡ front ++ s ∷ behind
     → ((xs ≡ front) × (t ≡ s)) ⊎ ((rest : List Stated) × (xs ≡ front ++ s ∷ rest))
 cut_last [] [] behind t s e = inl (refl, cc)
 cut_last [] (f ∷ front) behind t s e =
@@ -116,70 +111,53 @@ read_fault all lines behind line d n kind cut h at bad = record {
   bad = bad h.stated h.kept;
 }
 
--- a list is cut at a place
-pub cut_at : (xs : List (List ℕ)) (k : ℕ) (x : List ℕ) → k < length xs → get_or xs k [] ≡ x → xs ≡ take k xs ++ x ∷ drop (suc k) xs
-cut_at xs k x within is =
-    sym (take-append-drop k xs) ∙ ap (λ (ys : List (List ℕ)). take k xs ++ ys) (drop-cons xs k [] within ∙ ap (λ (y : List ℕ). y ∷ drop (suc k) xs) is)
+-- how far the lines of a file are read: some were taken, and the others are those of the rest
+pub record IsReading (bytes rest : List ℕ) (count : ℕ) (draft : Draft) : Type 0 where
+  pub before : List (List ℕ)
+  pub cut : lines_of bytes ≡ before ++ lines_of rest
+  pub counted : count ≡ length before
+  pub read : IsReadTo before draft
+  pub few : count + length rest ≤ length bytes
 
--- the number of a line
-numbered_at : (lines : List Line) (k : ℕ) (d : Line) → map (λ (line : Line). line.number) lines ≡ range_with_len 1 (length lines) → k < length lines
-    → (get_or lines k d).number ≡ 1 + k
-numbered_at lines k d numbered within =
-    sym (get_or-map (λ (line : Line). line.number) lines k d 0 within) ∙ ap (λ (ns : List ℕ). get_or ns k 0) numbered
-    ∙ get_or-range_with_len 1 (length lines) k 0 within
+pub begun : (bytes : List ℕ) (d : Draft) → IsDraft [] d → IsReading bytes bytes 0 d
+begun bytes d h = record { before = []; cut = refl; counted = refl; read = read_none d h; few = omega arith }
 
 -- the next line of the file was taken
-pub next_read : (bytes : List ℕ) (lines : List Line) (k : ℕ) (d : Line) (draft new : Draft)
-    → map (λ (line : Line). line.number) lines ≡ range_with_len 1 (length lines) → k < length lines → IsReadTo (take k (map (line_text bytes) lines)) draft
-    → ((stated : List Stated) → IsDraft stated draft → IsLineTaken stated (get_or lines k d).number (line_text bytes (get_or lines k d)) new)
-    → IsReadTo (take (k + 1) (map (line_text bytes) lines)) new
-next_read bytes lines k d draft new numbered within h taken =
-    let all = map (line_text bytes) lines in
-    let long : k < length all = omega (arith, length-map lines (line_text bytes)) in
-    let number = numbered_at lines k d numbered within in
-    let size : length (take k all) ≡ k = simp length-take (omega arith) in
-    let text = get_or-map (line_text bytes) lines k d [] within in
-    subst (λ (ls : List (List ℕ)). IsReadTo ls new) (sym (take_more all k [] long ∙ ap (λ (l : List ℕ). take k all ++ l ∷ []) text))
-    (read_more (take k all) (line_text bytes (get_or lines k d)) draft new (get_or lines k d).number h (omega arith) taken)
+pub one_more : (bytes rest line behind : List ℕ) (count : ℕ) (d e : Draft) → IsReading bytes rest count d → lines_of rest ≡ line ∷ lines_of behind
+    → length behind < length rest → ((stated : List Stated) → IsDraft stated d → IsLineTaken stated (count + 1) line e) → IsReading bytes behind (count + 1) e
+one_more bytes rest line behind count d e h next fewer taken =
+    let at = h.counted in
+    record {
+      before = h.before ++ line ∷ [];
+      cut = h.cut ∙ ap (λ (ls : List (List ℕ)). h.before ++ ls) next ∙ sym (append_assoc h.before (line ∷ []) (lines_of behind));
+      counted = omega (arith, length-append h.before (line ∷ []));
+      read = read_more h.before line d e (count + 1) h.read (omega arith) taken;
+      few = omega (arith, h.few);
+    }
 
 -- the next line of the file is bad
-pub next_fault : (bytes : List ℕ) (lines : List Line) (k : ℕ) (d : Line) (draft : Draft) (kind : LitmusKind)
-    → map (λ (line : Line). line.number) lines ≡ range_with_len 1 (length lines) → k < length lines → IsReadTo (take k (map (line_text bytes) lines)) draft
-    → ((stated : List Stated) → IsDraft stated draft → IsLineFault (statements stated) (line_text bytes (get_or lines k d)) kind)
-    → IsFirstFault (map (line_text bytes) lines) (get_or lines k d).number kind
-next_fault bytes lines k d draft kind numbered within h bad =
-    let all = map (line_text bytes) lines in
-    let long : k < length all = omega (arith, length-map lines (line_text bytes)) in
-    let number = numbered_at lines k d numbered within in
-    let size : length (take k all) ≡ k = simp length-take (omega arith) in
-    let text = get_or-map (line_text bytes) lines k d [] within in
-    read_fault all (take k all) (drop (suc k) all) (line_text bytes (get_or lines k d)) draft (get_or lines k d).number kind
-    (cut_at all k (line_text bytes (get_or lines k d)) long text) h (omega arith) bad
+pub one_bad : (bytes rest line behind : List ℕ) (count : ℕ) (d : Draft) (kind : LitmusKind) → IsReading bytes rest count d → lines_of rest ≡ line ∷ lines_of behind
+    → ((stated : List Stated) → IsDraft stated d → IsLineFault (statements stated) line kind) → IsFirstFault (lines_of bytes) (count + 1) kind
+one_bad bytes rest line behind count d kind h next bad =
+    let at = h.counted in
+    read_fault (lines_of bytes) h.before (lines_of behind) line d (count + 1) kind (h.cut ∙ ap (λ (ls : List (List ℕ)). h.before ++ ls) next) h.read (omega arith) bad
 
-onto_first-few : (b : ℕ) (lines : List (List ℕ)) → length (onto_first b lines) ≤ 1 + length lines
-onto_first-few b [] = omega arith
-onto_first-few b (l ∷ ls) = omega arith
-
--- there are no more lines than bytes
-pub few_lines : (bytes : List ℕ) → length (lines_of bytes) ≤ length bytes
-few_lines [] = omega arith
-few_lines (b ∷ bs) =
-    let fewer = few_lines bs in
-    let one = onto_first-few b (lines_of bs) in
-    cond_both (b == 10) ([] ∷ lines_of bs) (if b == 13 && feed_is_first bs then lines_of bs else onto_first b (lines_of bs)) (λ ls. length ls ≤ suc (length bs))
-    (λ e. omega arith)
-    (λ e. cond_both (b == 13 && feed_is_first bs) (lines_of bs) (onto_first b (lines_of bs)) (λ ls. length ls ≤ suc (length bs)) (λ f. omega arith) (λ f. omega arith))
+-- all lines of the file were taken
+pub all_read : (bytes rest : List ℕ) (count : ℕ) (d : Draft) → IsReading bytes rest count d → rest ≡ [] → IsReadTo (lines_of bytes) d × ((count ≡ length (lines_of bytes)) × (count ≤ length bytes))
+all_read bytes rest count d h none =
+    let all : lines_of bytes ≡ h.before = h.cut ∙ ap (λ (bs : List ℕ). h.before ++ lines_of bs) none ∙ append-nil h.before in
+    (subst (λ (ls : List (List ℕ)). IsReadTo ls d) (sym all) h.read, (h.counted ∙ ap (λ (ls : List (List ℕ)). length ls) (sym all), omega (arith, h.few)))
 
 -- all lines were read, and there was no question
-pub cut_short : (bytes : List ℕ) (texts : List (List ℕ)) (d : Draft) (line : ℕ) (kind : LitmusKind) → length bytes ≤ 65536 → texts ≡ lines_of bytes → IsReadTo texts d
+pub cut_short : (bytes : List ℕ) (d : Draft) (line : ℕ) (kind : LitmusKind) → length bytes ≤ 65536 → IsReadTo (lines_of bytes) d
     → ((stated : List Stated) → IsDraft stated d → (at : ℕ) (want : Bool) (asked : List Lexeme) → Contains stated (stated_in at (Question want asked)) → ⊥)
-    → line ≡ length texts + 1 → kind ≡ EndsEarly → IsLitmusRefused bytes line kind
-cut_short bytes texts d line kind few is h unasked at ends =
-    let short : IsCutShort texts line = record {
+    → line ≡ length (lines_of bytes) + 1 → kind ≡ EndsEarly → IsLitmusRefused bytes line kind
+cut_short bytes d line kind few h unasked at ends =
+    let short : IsCutShort (lines_of bytes) line = record {
       stated = h.stated;
       read = h.read;
       sound = h.sound;
       unasked = unasked h.stated h.kept;
       counted = at;
     } in
-    inr (inr (few, subst (λ (ls : List (List ℕ)). IsCutShort ls line) is short, ends))
+    inr (inr (few, short, ends))

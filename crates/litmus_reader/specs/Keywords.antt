@@ -6,6 +6,7 @@ use Rattle.litmus_reader.specs.declared.keywords.Keyword.TheVariants as word
 abbrev pub keyword_text : Keyword → List ℕ
 keyword_text word.Litmus = codes "litmus"
 keyword_text word.Block = codes "block"
+keyword_text word.Sector = codes "sector"
 keyword_text word.Setup = codes "setup"
 keyword_text word.Body = codes "body"
 keyword_text word.Exists = codes "exists"
@@ -23,3 +24,5 @@ keyword_text word.Fsync = codes "fsync"
 keyword_text word.FsyncDir = codes "fsyncdir"
 keyword_text word.Sync = codes "sync"
 keyword_text word.Mark = codes "mark"
+keyword_text word.Begin = codes "begin"
+keyword_text word.Commit = codes "commit"

@@ -11,4 +11,5 @@ pub mod Stages
 pub mod StatedLines
 pub mod Statements
 pub mod TakenLines
+pub mod Versions
 pub mod WholeFiles

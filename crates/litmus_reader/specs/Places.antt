@@ -1,11 +1,11 @@
 -- At which place of a litmus file each form of a line may stand.
 use Rattle.std.specs.Prelude.{◌≡◌, ◌⊎◌, ℕ, List, [], ◌∷◌, ◌++◌, replicate}
 use Rattle.litmus_reader.specs.declared.statements.Form.{Form}
-use Rattle.litmus_reader.specs.declared.statements.Form.TheVariants.{Head, Block, Setup, Body, Call, Question}
+use Rattle.litmus_reader.specs.declared.statements.Form.TheVariants.{Head, Block, Sector, Setup, Body, Call, Question}
 
--- at most one block line
-abbrev pub IsBlockPart : List Form → Type 0
-IsBlockPart forms = (forms ≡ []) ⊎ (forms ≡ Block ∷ [])
+-- at most one line of this form
+abbrev pub IsOneAtMost : Form → List Form → Type 0
+IsOneAtMost form forms = (forms ≡ []) ⊎ (forms ≡ form ∷ [])
 
 -- at most one setup line, with its calls
 abbrev pub IsSetupPart : List Form → Type 0
@@ -14,8 +14,8 @@ IsSetupPart forms = (forms ≡ []) ⊎ ((calls : ℕ) × (forms ≡ Setup ∷ re
 -- the forms of the lines of a whole file
 abbrev pub IsOrder : List Form → Type 0
 IsOrder forms =
-    (block setup : List Form) × (calls : ℕ) × IsBlockPart block × IsSetupPart setup
-    × (forms ≡ Head ∷ block ++ setup ++ Body ∷ replicate calls Call ++ Question ∷ [])
+    (block sector setup : List Form) × (calls : ℕ) × IsOneAtMost Block block × IsOneAtMost Sector sector × IsSetupPart setup
+    × (forms ≡ Head ∷ block ++ sector ++ setup ++ Body ∷ replicate calls Call ++ Question ∷ [])
 
 -- a line of this form may stand behind lines of those: some whole file begins so
 abbrev pub MayStand : List Form → Form → Type 0

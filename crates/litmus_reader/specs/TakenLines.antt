@@ -1,4 +1,4 @@
--- What becomes of a draft that takes one more line.
+-- Private: what becomes of a draft that takes one more line.
 use Rattle.std.specs.Prelude.{◌≡◌, ◌⊎◌, ℕ, List, [], ◌∷◌, ◌++◌}
 use Rattle.lexeme_reader.specs.declared.reading.Lexeme.{Lexeme}
 use Rattle.lexeme_reader.specs.Lexemes.{AreLexemes}
@@ -7,8 +7,8 @@ use Rattle.litmus_reader.specs.Statements.{Statement, statement_lexemes}
 use Rattle.litmus_reader.specs.declared.fault.LitmusKind.TheVariants.{BadLine}
 use Rattle.litmus_reader.specs.declared.draft.Draft.{Draft}
 use Rattle.litmus_reader.specs.StatedLines.{Stated, AreStated, stated_in, statements}
-use Rattle.litmus_reader.specs.Faults.{IsSound}
-use Rattle.litmus_reader.specs.FirstFaults.{IsFault}
+use Rattle.litmus_reader.specs.Faults.{IsForeign, IsSound}
+use Rattle.litmus_reader.specs.FirstFaults.{IsFirstKind}
 use Rattle.litmus_reader.specs.LitmusText.{AreSound}
 use Rattle.litmus_reader.specs.Drafts.{IsDraft}
 
@@ -19,8 +19,8 @@ pub record IsTaken (stated : List Stated) (line : ℕ) (s : Statement) (d : Draf
 
 -- the fault of a line that says this, behind those statements
 abbrev pub IsFaultIn : List Statement → List Lexeme → LitmusKind → Type 0
-IsFaultIn before lexemes BadLine = (s : Statement) → lexemes ≡ statement_lexemes s → ⊥
-IsFaultIn before lexemes kind = (s : Statement) × (lexemes ≡ statement_lexemes s) × IsFault before s kind
+IsFaultIn before lexemes BadLine = (s : Statement) → lexemes ≡ statement_lexemes s → IsForeign before s
+IsFaultIn before lexemes kind = (s : Statement) × (lexemes ≡ statement_lexemes s) × IsFirstKind before s kind
 
 -- a line was taken: it is blank, and the draft is the same, or it says a statement, which was taken
 abbrev pub IsLineTaken : List Stated → ℕ → List ℕ → Draft → Type 0

@@ -1,4 +1,4 @@
-ghost use Rattle.std.specs.Prelude.{◌≡◌, ◌^◌, ◌<◌, ◌∷◌, [], IfOk, MatchOption};
+ghost use Rattle.std.specs.Prelude.{◌≡◌, ℕ, ◌^◌, ◌<◌, ◌∷◌, [], Some, IfOk, MatchOption};
 ghost use Rattle.litmus_syntax.specs.declared.call.Call.{Call};
 ghost use Rattle.lexeme_reader.specs.declared.reading.Lexeme.TheVariants as says;
 ghost use Rattle.litmus_reader.specs.Keywords.{keyword_text};
@@ -11,13 +11,10 @@ use litmus_syntax::{Call, Path, Text, copy_path, copy_text};
 use std::alloc::{AllocError, Global};
 
 /// The number, if it is in range; a line with any other number is refused before its numbers are used.
-fn in_range(number: u64) -> u32
-    ensures { number < 2 ^ 32 → result ≡ number }
+pub fn in_range(number: Option<u32>) -> u32
+    ensures { (n : ℕ) → number ≡ Some n → (result ≡ n) × (n < 2 ^ 32) }
 {
-    if number > u64::from(u32::MAX) {
-        return u32::MAX;
-    }
-    number as u32
+    number.unwrap_or(0)
 }
 
 /// The call of this name on nothing.
@@ -28,6 +25,8 @@ fn call_alone(name: Keyword) -> Option<Call>
 {
     match name {
         Keyword::Sync => Some(Call::Sync),
+        Keyword::Begin => Some(Call::Begin),
+        Keyword::Commit => Some(Call::Commit),
         _ => None,
     }
 }
@@ -86,7 +85,7 @@ fn call_on_text(name: Keyword, path: Path, text: Text) -> Option<Call>
 }
 
 /// The call of this name on a path and a number.
-fn call_on_number(name: Keyword, path: Path, number: u64) -> Option<Call>
+fn call_on_number(name: Keyword, path: Path, number: Option<u32>) -> Option<Call>
     ensures { MatchOption result
         ((c : Call) → says.Word (keyword_text name) ∷ says.Path path ∷ says.Number number ∷ [] ≡ call_lexemes c → ⊥)
         (λ c. IsCallRead (says.Word (keyword_text name) ∷ says.Path path ∷ says.Number number ∷ []) c) }
@@ -101,7 +100,7 @@ fn call_on_number(name: Keyword, path: Path, number: u64) -> Option<Call>
 }
 
 /// The call of this name on a path, a number and a text.
-fn call_on_place(name: Keyword, path: Path, number: u64, text: Text) -> Option<Call>
+fn call_on_place(name: Keyword, path: Path, number: Option<u32>, text: Text) -> Option<Call>
     ensures { MatchOption result
         ((c : Call) → says.Word (keyword_text name) ∷ says.Path path ∷ says.Number number ∷ says.Text text ∷ [] ≡ call_lexemes c → ⊥)
         (λ c. IsCallRead (says.Word (keyword_text name) ∷ says.Path path ∷ says.Number number ∷ says.Text text ∷ []) c) }
@@ -117,7 +116,7 @@ fn call_on_place(name: Keyword, path: Path, number: u64, text: Text) -> Option<C
 }
 
 /// The call of this name on a path, a word and a number.
-fn call_on_key(name: Keyword, path: Path, key: Text, number: u64) -> Option<Call>
+fn call_on_key(name: Keyword, path: Path, key: Text, number: Option<u32>) -> Option<Call>
     ensures { MatchOption result
         ((c : Call) → says.Word (keyword_text name) ∷ says.Path path ∷ says.Word key ∷ says.Number number ∷ [] ≡ call_lexemes c → ⊥)
         (λ c. IsCallRead (says.Word (keyword_text name) ∷ says.Path path ∷ says.Word key ∷ says.Number number ∷ []) c) }

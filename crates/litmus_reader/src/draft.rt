@@ -1,27 +1,30 @@
-ghost use Rattle.std.specs.Prelude.{◌≡◌, ◌⊎◌, ℕ, ◌+◌, ◌<◌, ◌≤◌, ◌∷◌, ◌++◌, [], Bool, true, false, List, length, All, OnOk, IsTrue, MatchOption, if◌then◌else◌};
+ghost use Rattle.std.specs.Prelude.{◌≡◌, ◌⊎◌, ℕ, ◌+◌, ◌<◌, ◌≤◌, ◌∷◌, ◌++◌, [], Bool, true, false, List, length, All, OnOk, IsTrue, MatchBool, MatchOption, if◌then◌else◌};
 ghost use Rattle.std.specs.List.{Contains};
 ghost use Rattle.litmus_syntax.specs.declared.pred.Pred.{Pred};
 ghost use Rattle.litmus_syntax.specs.CallKinds.{is_sync, is_setup_call, is_body_call};
+ghost use Rattle.litmus_syntax.specs.Transactions.{open_behind, suits};
 ghost use Rattle.lexeme_reader.specs.declared.reading.Lexeme.{Lexeme};
 ghost use Rattle.lexeme_reader.specs.Lexemes.{is_formed};
 ghost use Rattle.predicate_reader.specs.Counts.{IsShort};
 ghost use Rattle.predicate_reader.specs.Predicates.{AreInRange, IsPredicate};
-ghost use Rattle.litmus_reader.specs.Statements.{Statement, Question, statement_lexemes, form_of};
+ghost use Rattle.litmus_reader.specs.Statements.{Statement, Question, statement_lexemes};
+ghost use Rattle.litmus_reader.specs.Versions.{version_named};
+ghost use Rattle.litmus_reader.specs.Faults.{pairs};
 ghost use Rattle.litmus_reader.specs.Read.{statement_of};
-ghost use Rattle.litmus_reader.specs.Stages.{place_behind};
-ghost use Rattle.litmus_reader.specs.FirstFaults.{IsFault};
+ghost use Rattle.litmus_reader.specs.FirstFaults.{IsFirstKind};
 ghost use Rattle.litmus_reader.specs.StatedLines.{Stated, stated_in, statements};
 ghost use Rattle.litmus_reader.specs.WholeFiles.{IsTest};
-ghost use Rattle.litmus_reader.specs.Drafts.{step_in, IsDraft};
+ghost use Rattle.litmus_reader.specs.Drafts.{step_in, IsExpected, IsDraft};
 ghost use Rattle.litmus_reader.specs.TakenLines.{IsTaken, IsFaultIn};
 
+use crate::call_kinds::{is_body_call, is_open_behind, is_setup_call, is_sync, suits};
 use crate::fault::LitmusKind;
-use crate::places::Place;
+use crate::stages::Stage;
 use crate::statements::{Said, said_by};
 use fer_list::Seq;
-use lexeme_reader::{Lexeme, narrow};
+use lexeme_reader::Lexeme;
 use litmus_syntax::{Call, Litmus, Pred, Step, Text, copy_text};
-use predicate_reader::{are_in_range, is_short, predicate};
+use predicate_reader::{are_in_range, is_short, kept_limits, predicate};
 use std::alloc::{AllocError, Global};
 
 /// The most calls of the setup.
@@ -33,7 +36,7 @@ const MOST_BODY_CALLS: usize = 128;
 /// The block where a file doesn't name one, and the largest that it may name, in bytes.
 const BLOCK: u32 = 4096;
 
-const MOST_BLOCK: u64 = 65536;
+const MOST_BLOCK: u32 = 65536;
 
 /// Why a line isn't taken.
 #[derive(Clone, Copy, Debug)]
@@ -63,41 +66,18 @@ pub struct Asked {
 /// What the lines so far say.
 #[derive(Debug, Drop)]
 pub struct Draft {
-    place: Place,
+    stage: Stage,
     name: Text,
+    version: u32,
     block: u32,
+    sector: u32,
     setup: Seq<Step>,
     body: Seq<Step>,
     /// How many calls of the body aren't syncs.
     changes: usize,
+    /// Whether a transaction of the body is open.
+    in_transaction: bool,
     question: Option<Asked>,
-}
-
-/// Whether the call only waits for the disk.
-fn is_sync(call: &Call) -> bool
-    ensures { result ≡ is_sync call.now }
-{
-    matches!(
-        call,
-        Call::Fsync { .. } | Call::FsyncDir { .. } | Call::Sync
-    )
-}
-
-/// Whether the call may stand in the setup.
-fn is_setup_call(call: &Call) -> bool
-    ensures { result ≡ is_setup_call call.now }
-{
-    !matches!(
-        call,
-        Call::Fsync { .. } | Call::FsyncDir { .. } | Call::Sync | Call::Mark { .. }
-    )
-}
-
-/// Whether the call may stand in the body.
-fn is_body_call(call: &Call) -> bool
-    ensures { result ≡ is_body_call call.now }
-{
-    !matches!(call, Call::Mkdir { .. })
 }
 
 impl Draft {
@@ -106,28 +86,37 @@ impl Draft {
         ensures { IsDraft [] result }
     {
         Draft {
-            place: Place::Start,
+            stage: Stage::Start,
             name: Seq::new(alloc),
+            version: 1,
             block: BLOCK,
+            sector: BLOCK,
             setup: Seq::new(alloc),
             body: Seq::new(alloc),
             changes: 0,
+            in_transaction: false,
             question: None,
         }
     }
 
-    /// Notes the name of the test.
-    fn set_name(&mut self, alloc: Global, name: &Text) -> Result<(), LineFault>
-        ensures set { OnOk result (self.new ≡ record self.old { name = name.now }) }
+    /// Notes the name of the test and the version that the head names.
+    fn set_head(
+        &mut self,
+        alloc: Global,
+        name: &Text,
+        version: Option<u32>,
+    ) -> Result<(), LineFault>
+        ensures set { OnOk result (self.new ≡ record self.old { name = name.now; version = version_named version }) }
         ensures no_fault { (kind : LitmusKind) → result ≡ Err (LineFault.Bad kind) → ⊥ }
     {
         self.name = copy_text(alloc, name.as_slice())?;
+        self.version = version.unwrap_or(1);
         Ok(())
     }
 
-    /// Notes the size of a block.
-    fn set_block(&mut self, size: u64) -> Result<(), LineFault>
-        ensures set { OnOk result ((1 ≤ size) × (size ≤ 65536) × (self.new ≡ record self.old { block = size })) }
+    /// Notes the size of a block, which is that of a sector too where no line names one.
+    fn set_block(&mut self, size: u32) -> Result<(), LineFault>
+        ensures set { OnOk result ((1 ≤ size) × (size ≤ 65536) × (self.new ≡ record self.old { block = size; sector = size })) }
         ensures fault { (kind : LitmusKind) → result ≡ Err (LineFault.Bad kind)
             → (kind ≡ LitmusKind.NumberRange) × ((size ≡ 0) ⊎ (65536 < size)) }
     {
@@ -137,7 +126,24 @@ impl Draft {
         if size > MOST_BLOCK {
             return Err(LineFault::Bad(LitmusKind::NumberRange));
         }
-        self.block = narrow(size);
+        self.block = size;
+        self.sector = size;
+        Ok(())
+    }
+
+    /// Notes the size of a sector.
+    fn set_sector(&mut self, size: u32) -> Result<(), LineFault>
+        ensures set { OnOk result ((1 ≤ size) × (size ≤ self.old.block) × (self.new ≡ record self.old { sector = size })) }
+        ensures fault { (kind : LitmusKind) → result ≡ Err (LineFault.Bad kind)
+            → (kind ≡ LitmusKind.NumberRange) × ((size ≡ 0) ⊎ (self.old.block < size)) }
+    {
+        if size == 0 {
+            return Err(LineFault::Bad(LitmusKind::NumberRange));
+        }
+        if size > self.block {
+            return Err(LineFault::Bad(LitmusKind::NumberRange));
+        }
+        self.sector = size;
         Ok(())
     }
 
@@ -161,20 +167,28 @@ impl Draft {
 
     /// Notes a call of the body.
     fn push_body(&mut self, line: u32, call: Call) -> Result<(), LineFault>
-        ensures pushed { OnOk result ((is_body_call call ≡ true) × (is_sync call ≡ false → self.old.changes < 128)
+        ensures pushed { OnOk result ((is_body_call call ≡ true) × (suits self.old.in_transaction call ≡ true)
+            × (is_sync call ≡ false → self.old.changes < 128)
             × (self.new ≡ record self.old {
               body = self.old.body ++ step_in line call ∷ [];
               changes = (if is_sync call then self.old.changes else self.old.changes + 1);
+              in_transaction = open_behind self.old.in_transaction call;
             })) }
         ensures fault { (kind : LitmusKind) → result ≡ Err (LineFault.Bad kind)
-            → ((kind ≡ LitmusKind.NotHere) × (is_body_call call ≡ false))
-            ⊎ ((kind ≡ LitmusKind.TooLong) × (is_body_call call ≡ true) × (is_sync call ≡ false) × (128 ≤ self.old.changes)) }
+            → ((kind ≡ LitmusKind.NotHere) × ((is_body_call call ≡ false) ⊎ (suits self.old.in_transaction call ≡ false)))
+            ⊎ ((kind ≡ LitmusKind.TooLong) × (is_body_call call ≡ true) × (suits self.old.in_transaction call ≡ true)
+            × (is_sync call ≡ false) × (128 ≤ self.old.changes)) }
     {
         if !is_body_call(&call) {
             return Err(LineFault::Bad(LitmusKind::NotHere));
         }
+        if !suits(self.in_transaction, &call) {
+            return Err(LineFault::Bad(LitmusKind::NotHere));
+        }
+        let inside = is_open_behind(self.in_transaction, &call);
         if is_sync(&call) {
             self.body.push(Step { line, call })?;
+            self.in_transaction = inside;
             return Ok(());
         }
         if self.changes >= MOST_BODY_CALLS {
@@ -182,6 +196,7 @@ impl Draft {
         }
         self.body.push(Step { line, call })?;
         self.changes += 1;
+        self.in_transaction = inside;
         Ok(())
     }
 
@@ -210,26 +225,37 @@ impl Draft {
         Ok(())
     }
 
-    /// Notes what a line states, at the place that it leads to.
-    fn state(&mut self, alloc: Global, line: u32, place: Place, said: Said) -> Result<(), LineFault>
-        requires place { place_behind self.old.place (form_of (statement_of said)) ≡ Some place }
-        requires formed { All (λ l. IsTrue (is_formed l)) (statement_lexemes (statement_of said)) }
-        requires in_range { AreInRange (statement_lexemes (statement_of said)) }
+    /// Notes what a line states, at the stage that it leads to.
+    fn state(&mut self, alloc: Global, line: u32, stage: Stage, said: Said) -> Result<(), LineFault>
+        requires { IsExpected self.old stage (statement_of said) }
         ensures taken { OnOk result ((stated : List Stated) → IsDraft stated self.old → IsTaken stated line (statement_of said.entry) self.new) }
         ensures fault { (kind : LitmusKind) → result ≡ Err (LineFault.Bad kind)
-            → (stated : List Stated) → IsDraft stated self.old → IsFault (statements stated) (statement_of said.entry) kind }
+            → (stated : List Stated) → IsDraft stated self.old → IsFirstKind (statements stated) (statement_of said.entry) kind }
     {
-        self.place = place;
+        self.stage = stage;
         match said {
-            Said::Head(name) => self.set_name(alloc, name),
+            Said::Head(name, version) => self.set_head(alloc, name, version),
             Said::Block(size) => self.set_block(size),
+            Said::Sector(size) => self.set_sector(size),
             Said::Setup => Ok(()),
             Said::Body => Ok(()),
-            Said::Called(call) => match place {
-                Place::InBody => self.push_body(line, call),
+            Said::Called(call) => match stage {
+                Stage::InBody => self.push_body(line, call),
                 _ => self.push_setup(line, call),
             },
             Said::Question(want, asked) => self.ask(alloc, line, want, asked),
+        }
+    }
+
+    /// Whether the line would begin a transaction in another, commit one that isn't open, or ask while one is open.
+    fn is_unpaired(&self, said: &Said) -> bool
+        ensures { MatchBool result
+            ((self.now.stage ≡ Stage.InBody) × (pairs self.now.in_transaction (statement_of said.now) ≡ false))
+            (self.now.stage ≡ Stage.InBody → pairs self.now.in_transaction (statement_of said.now) ≡ true) }
+    {
+        match self.stage {
+            Stage::InBody => !said.pairs(self.in_transaction),
+            _ => false,
         }
     }
 
@@ -244,13 +270,19 @@ impl Draft {
         let Some(said) = said_by(alloc, lexemes)? else {
             return Err(LineFault::Bad(LitmusKind::BadLine));
         };
-        let Some(place) = self.place.behind(said.form()) else {
+        if !said.is_of_version(self.version) {
+            return Err(LineFault::Bad(LitmusKind::BadLine));
+        }
+        let Some(stage) = self.stage.behind(said.form()) else {
             return Err(LineFault::Bad(LitmusKind::OutOfOrder));
         };
+        if self.is_unpaired(&said) {
+            return Err(LineFault::Bad(LitmusKind::OutOfOrder));
+        }
         if !are_in_range(lexemes) {
             return Err(LineFault::Bad(LitmusKind::NumberRange));
         }
-        self.state(alloc, line, place, said)
+        self.state(alloc, line, stage, said)
     }
 
     /// The test that the lines make, if they end with a question.
@@ -261,17 +293,21 @@ impl Draft {
             (λ litmus. IsTest stated litmus) }
     {
         let Draft {
-            place: _,
+            stage: _,
             name,
+            version,
             block,
+            sector,
             setup,
             body,
             changes: _,
+            in_transaction: _,
             question,
         } = self;
         let Some(Asked { line, want, pred }) = question else {
             return None;
         };
-        Some(Litmus::new(name, block, setup, body, want, pred, line))
+        kept_limits();
+        Some(Litmus::new(name, block, setup, body, want, pred, line, version, sector))
     }
 }

@@ -10,13 +10,14 @@ pub enum LitmusKind {
     BadByte,
     /// Something that is no token.
     BadToken,
-    /// The tokens are of no form.
+    /// The tokens are of none of the forms of the file's version.
     BadLine,
-    /// The line is of a form that may not stand at this place.
+    /// The line is of a form that may not stand at this place, or begins a transaction in another, commits one that
+    /// isn't open, or asks the question while one is open.
     OutOfOrder,
-    /// A number is above 2^32 - 1, or a block is 0 or above 65,536.
+    /// A number is above 2^32 - 1, a block is 0 or above 65,536, or a sector is 0 or above the block.
     NumberRange,
-    /// `mkdir` in the body, or a sync or `mark` in the setup.
+    /// `mkdir` in the body, a sync, `mark`, `begin` or `commit` in the setup, or a sync or `mark` in a transaction.
     NotHere,
     /// What follows the `:` of a question is no predicate.
     BadPredicate,

@@ -7,6 +7,7 @@ ghost use Rattle.litmus_reader.specs.Keywords.{keyword_text};
 pub enum Keyword {
     Litmus,
     Block,
+    Sector,
     Setup,
     Body,
     Exists,
@@ -24,6 +25,8 @@ pub enum Keyword {
     FsyncDir,
     Sync,
     Mark,
+    Begin,
+    Commit,
 }
 
 /// The keyword that this word is.
@@ -33,6 +36,7 @@ pub fn keyword_of(word: &[u8]) -> Option<Keyword>
     match word {
         b"litmus" => Some(Keyword::Litmus),
         b"block" => Some(Keyword::Block),
+        b"sector" => Some(Keyword::Sector),
         b"setup" => Some(Keyword::Setup),
         b"body" => Some(Keyword::Body),
         b"exists" => Some(Keyword::Exists),
@@ -50,6 +54,8 @@ pub fn keyword_of(word: &[u8]) -> Option<Keyword>
         b"fsyncdir" => Some(Keyword::FsyncDir),
         b"sync" => Some(Keyword::Sync),
         b"mark" => Some(Keyword::Mark),
+        b"begin" => Some(Keyword::Begin),
+        b"commit" => Some(Keyword::Commit),
         _ => None,
     }
 }

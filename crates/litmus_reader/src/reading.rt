@@ -1,6 +1,5 @@
-ghost use Rattle.std.specs.Prelude.{◌≡◌, ℕ, IfOk, OnOk, All, Err, List, map, length};
-ghost use Rattle.std.specs.List.{range_with_len};
-ghost use Rattle.text_scan.specs.Lines.{line_text, IsPlaced};
+ghost use Rattle.std.specs.Prelude.{◌≡◌, ℕ, ◌≤◌, IfOk, OnOk, Err, List, length};
+ghost use Rattle.text_scan.specs.Lines.{lines_of};
 ghost use Rattle.litmus_reader.specs.declared.fault.LitmusKind.{LitmusKind};
 ghost use Rattle.litmus_reader.specs.declared.fault.LitmusFault.TheVariants.{Refused};
 ghost use Rattle.litmus_reader.specs.declared.draft.LineFault.TheVariants.{Bad};
@@ -15,7 +14,7 @@ use crate::fault::{LitmusFault, LitmusKind};
 use lexeme_reader::lexemes;
 use litmus_syntax::Litmus;
 use std::alloc::Global;
-use text_scan::{Line, ScanError, lines};
+use text_scan::{ScanError, first_line};
 
 /// The most bytes of a file.
 const MOST_BYTES: usize = 65536;
@@ -48,22 +47,25 @@ fn fault_in(line: u32, fault: LineFault) -> LitmusFault
     }
 }
 
-/// What the lines of a file say, or the first bad line and the kind of its fault.
-fn draft_of(alloc: Global, bytes: &[u8], lines: &[Line]) -> Result<Draft, LitmusFault>
-    requires numbered { map (λ line. line.number) lines.now ≡ range_with_len 1 (length lines.now) }
-    requires placed { All (IsPlaced bytes.now) lines.now }
-    ensures taken { IfOk result (λ draft. IsReadTo (map (line_text bytes.now) lines.now) draft) }
+/// What the lines of a file say, and how many there are; or the first bad line and the kind of its fault.
+fn draft_of(alloc: Global, bytes: &[u8]) -> Result<(Draft, u32), LitmusFault>
+    requires { length bytes.now ≤ 65536 }
+    ensures taken { IfOk result (λ r. IsReadTo (lines_of bytes.now) r.0) }
+    ensures counted { IfOk result (λ r. (r.1 ≡ length (lines_of bytes.now)) × (r.1 ≤ length bytes.now)) }
     ensures refused { (line : ℕ) (kind : LitmusKind) → result ≡ Err (Refused line kind)
-        → IsFirstFault (map (line_text bytes.now) lines.now) line kind }
+        → IsFirstFault (lines_of bytes.now) line kind }
 {
     let mut draft = Draft::new(alloc);
-    for line in lines {
-        let text = &bytes[line.start..line.end];
-        if let Err(fault) = take_line(&mut draft, alloc, line.number, text) {
-            return Err(fault_in(line.number, fault));
+    let mut count = 0;
+    let mut rest = bytes;
+    while let Some((line, behind)) = first_line(rest) {
+        count += 1;
+        if let Err(fault) = take_line(&mut draft, alloc, count, line) {
+            return Err(fault_in(count, fault));
         }
+        rest = behind;
     }
-    Ok(draft)
+    Ok((draft, count))
 }
 
 /// The litmus test that the bytes are. Where they are none, the answer is the number of the first bad line, counted
@@ -79,14 +81,11 @@ pub fn read(alloc: Global, bytes: &[u8]) -> Result<Litmus, LitmusFault>
             kind: LitmusKind::TooLong,
         });
     }
-    let Ok(lines) = lines(alloc, bytes) else {
-        return Err(LitmusFault::OutOfMemory);
-    };
-    let draft = draft_of(alloc, bytes, lines.as_slice())?;
+    let (draft, count) = draft_of(alloc, bytes)?;
     match draft.finish() {
         Some(litmus) => Ok(litmus),
         None => Err(LitmusFault::Refused {
-            line: lines.len() as u32 + 1,
+            line: count + 1,
             kind: LitmusKind::EndsEarly,
         }),
     }

@@ -1,13 +1,16 @@
-ghost use Rattle.std.specs.Prelude.{◌≡◌, ◌∷◌, [], List, IfOk, MatchOption, MatchBool};
+ghost use Rattle.std.specs.Prelude.{◌≡◌, ℕ, ◌∷◌, [], Option, List, IfOk, MatchOption, MatchBool};
 ghost use Rattle.lexeme_reader.specs.declared.reading.Lexeme.{Lexeme};
 ghost use Rattle.lexeme_reader.specs.declared.reading.Lexeme.TheVariants as says;
 ghost use Rattle.litmus_reader.specs.declared.keywords.Keyword.{Keyword};
 ghost use Rattle.litmus_syntax.specs.LitmusText.{question_word};
 ghost use Rattle.litmus_reader.specs.Keywords.{keyword_text};
 ghost use Rattle.litmus_reader.specs.Statements.{Statement, statement_lexemes, form_of};
+ghost use Rattle.litmus_reader.specs.Versions.{version_has};
+ghost use Rattle.litmus_reader.specs.Faults.{pairs};
 ghost use Rattle.litmus_reader.specs.Read.{statement_of, IsRead};
 
-use crate::calls::call_of;
+use crate::call_kinds::{is_boundary, suits};
+use crate::calls::{call_of, in_range};
 use crate::keywords::{Keyword, keyword_of};
 use lexeme_reader::Lexeme;
 use litmus_syntax::{Call, Text};
@@ -18,6 +21,7 @@ use std::alloc::{AllocError, Global};
 pub enum Form {
     Head,
     Block,
+    Sector,
     Setup,
     Body,
     Call,
@@ -27,10 +31,12 @@ pub enum Form {
 /// What a line states, before its numbers are known to be in range.
 #[derive(Debug, Drop)]
 pub enum Said<'a> {
-    /// The name of the test.
-    Head(&'a Text),
+    /// The name of the test, and the version, if it is named.
+    Head(&'a Text, Option<u32>),
     /// The size of a block.
-    Block(u64),
+    Block(u32),
+    /// The size of a sector.
+    Sector(u32),
     Setup,
     Body,
     Called(Call),
@@ -44,12 +50,37 @@ impl<'a> Said<'a> {
         ensures { result ≡ form_of (statement_of self.now) }
     {
         match self {
-            Said::Head(_) => Form::Head,
+            Said::Head(..) => Form::Head,
             Said::Block(_) => Form::Block,
+            Said::Sector(_) => Form::Sector,
             Said::Setup => Form::Setup,
             Said::Body => Form::Body,
             Said::Called(_) => Form::Call,
             Said::Question(..) => Form::Question,
+        }
+    }
+
+    /// Whether a file of this version has such a line.
+    pub fn is_of_version(&self, version: u32) -> bool
+        ensures { result ≡ version_has version (statement_of self.now) }
+    {
+        match self {
+            Said::Head(_, None) => true,
+            Said::Head(_, Some(named)) => *named == 1 || *named == 2,
+            Said::Sector(_) => version == 2,
+            Said::Called(call) => !is_boundary(call) || version == 2,
+            _ => true,
+        }
+    }
+
+    /// Whether the line may stand in the body as far as transactions go, one being open or not.
+    pub fn pairs(&self, inside: bool) -> bool
+        ensures { result ≡ pairs inside (statement_of self.now) }
+    {
+        match self {
+            Said::Called(call) => !is_boundary(call) || suits(inside, call),
+            Said::Question(..) => !inside,
+            _ => true,
         }
     }
 }
@@ -75,7 +106,22 @@ fn head(rest: &[Lexeme]) -> Option<Said>
         (λ said. says.Word (keyword_text Keyword.Litmus) ∷ rest.now ≡ statement_lexemes (statement_of said)) }
 {
     match rest {
-        [Lexeme::Word(name)] => Some(Said::Head(name)),
+        [Lexeme::Word(name)] => Some(Said::Head(name, None)),
+        [Lexeme::Word(name), Lexeme::Number(Some(version))] => {
+            Some(Said::Head(name, Some(*version)))
+        }
+        _ => None,
+    }
+}
+
+/// The number that the tokens are, if they are one.
+fn number_alone(rest: &[Lexeme]) -> Option<Option<u32>>
+    ensures { MatchOption result
+        ((n : Option ℕ) → rest.now ≡ says.Number n ∷ [] → ⊥)
+        (λ n. rest.now ≡ says.Number n ∷ []) }
+{
+    match rest {
+        [Lexeme::Number(number)] => Some(*number),
         _ => None,
     }
 }
@@ -84,12 +130,20 @@ fn head(rest: &[Lexeme]) -> Option<Said>
 fn block(rest: &[Lexeme]) -> Option<Said>
     ensures { MatchOption result
         ((s : Statement) → says.Word (keyword_text Keyword.Block) ∷ rest.now ≡ statement_lexemes s → ⊥)
-        (λ said. says.Word (keyword_text Keyword.Block) ∷ rest.now ≡ statement_lexemes (statement_of said)) }
+        (λ said. IsRead (says.Word (keyword_text Keyword.Block) ∷ rest.now) (statement_of said)) }
 {
-    match rest {
-        [Lexeme::Number(size)] => Some(Said::Block(*size)),
-        _ => None,
-    }
+    let size = number_alone(rest)?;
+    Some(Said::Block(in_range(size)))
+}
+
+/// The sector line with these tokens behind its keyword.
+fn sector(rest: &[Lexeme]) -> Option<Said>
+    ensures { MatchOption result
+        ((s : Statement) → says.Word (keyword_text Keyword.Sector) ∷ rest.now ≡ statement_lexemes s → ⊥)
+        (λ said. IsRead (says.Word (keyword_text Keyword.Sector) ∷ rest.now) (statement_of said)) }
+{
+    let size = number_alone(rest)?;
+    Some(Said::Sector(in_range(size)))
 }
 
 /// Whether the tokens are a colon.
@@ -134,6 +188,7 @@ fn statement_behind<'a>(
     match name {
         Keyword::Litmus => Ok(head(rest)),
         Keyword::Block => Ok(block(rest)),
+        Keyword::Sector => Ok(sector(rest)),
         Keyword::Setup => Ok(is_colon(rest).then_some(Said::Setup)),
         Keyword::Body => Ok(is_colon(rest).then_some(Said::Body)),
         Keyword::Exists => Ok(question(true, rest)),

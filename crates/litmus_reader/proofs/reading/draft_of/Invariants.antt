@@ -1,7 +1,9 @@
-use Rattle.std.proofs.Common.{map, take}
-use Rattle.text_scan.specs.Lines.{line_text}
-use Rattle.litmus_reader.specs.TakenLines.{IsReadTo}
+use Rattle.std.proofs.Common.{length}
+use Rattle.litmus_reader.proofs.Stating.{IsReading}
 use Rattle.litmus_reader.proofs.reading.draft_of.Given as goal
 
 abbrev pub invariant-loop-line : goal.invariant-loop-line
-invariant-loop-line l = IsReadTo (take l.line-index (map (line_text l.bytes) l.lines)) l.draft
+invariant-loop-line l = IsReading l.fn.bytes l.rest l.count l.draft
+
+abbrev pub decreases-loop-line : goal.decreases-loop-line
+decreases-loop-line l = length l.rest

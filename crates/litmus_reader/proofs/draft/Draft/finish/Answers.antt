@@ -11,4 +11,4 @@ pub returns : goal.returns
 returns c = λ stated h. subst (λ (t : Test). IsTest stated t) (sym c.new.ensures) (finished stated c.args.self c.in-Some.field-0 h c.in-Some.is)
 
 pub new-requires : goal.new-requires
-new-requires c = limits c.requires.0 c.args.self c.in-Some.field-0 c.requires.1 c.in-Some.is
+new-requires c = limits (record { formed = c.kept_limits.ensures.formed; short = c.kept_limits.ensures.short }) c.requires.0 c.args.self c.in-Some.field-0 c.requires.1 c.in-Some.is

@@ -1,0 +1,11 @@
+use Rattle.std.proofs.Common.{List, ◌∷◌, ap}
+use Rattle.lexeme_reader.specs.declared.reading.Lexeme.{Lexeme}
+use Rattle.lexeme_reader.specs.declared.reading.Lexeme.TheVariants.{Word}
+use Rattle.litmus_reader.specs.declared.keywords.Keyword.TheVariants as word
+use Rattle.litmus_reader.specs.Keywords.{keyword_text}
+use Rattle.litmus_reader.proofs.Leading.{sector_told}
+use Rattle.litmus_reader.proofs.Exact.{sector_read}
+use Rattle.litmus_reader.proofs.statements.sector.Goals as goal
+
+pub returns : goal.returns
+returns c = sector_read _ c.in_ok-size.size c.in_range.result (ap (λ (ls : List Lexeme). Word (keyword_text word.Sector) ∷ ls) c.in_ok-size.ensures) c.in_range.ensures
