@@ -1,17 +1,18 @@
 -- How atoms are read as they are written.
-use Rattle.std.proofs.Common.{◌≡◌, ℕ, suc, ◌+◌, ◌<◌, ◌≤◌, ◌^◌, List, [], ◌∷◌, ◌++◌, length, Bool, true, false, IsTrue, refl, sym, ◌∙◌, ap, subst, arith, append_assoc}
+use Rattle.std.proofs.Common.{◌≡◌, ℕ, suc, ◌+◌, ◌<◌, ◌≤◌, ◌^◌, List, [], ◌∷◌, ◌++◌, length, Bool, true, false, Some, IsTrue, refl, sym, ◌∙◌, ap, subst, arith, append_assoc}
 use Rattle.std.specs.Prelude.{codes, decimal, bytes_eq, cond, if◌then◌else◌}
 use Rattle.std.specs.List.{list_any}
 use Rattle.std.proofs.lemmas.Bool.Decides.{nat_tests}
 use Rattle.text_scan.specs.Bytes.{is_path_byte, is_name_byte}
 use Rattle.text_scan.specs.Forms.{is_word}
+use Rattle.litmus_syntax.specs.declared.pred.Binding.TheVariants.{Operand}
 use Rattle.litmus_syntax.specs.declared.pred.Pred.TheVariants as pred
 use Rattle.litmus_syntax.specs.Counts.{atom_words, atom_counts, constant_counts, named_counts}
-use Rattle.litmus_syntax.specs.Forms.{is_formed_path, is_number, is_byte_text}
+use Rattle.litmus_syntax.specs.Forms.{is_formed_path, is_narrow, is_byte_text}
 use Rattle.litmus_syntax.specs.Texts.{path_text, quoted}
 use Rattle.lexeme_reader.specs.declared.reading.Lexeme.{Lexeme}
 use Rattle.lexeme_reader.specs.declared.reading.Lexeme.TheVariants.{Word, Number, Path, Text, Sign}
-use Rattle.predicate_reader.specs.Predicates.{Tight, yes, no, exists, same, size, content, bytes, attr, seen, atom}
+use Rattle.predicate_reader.specs.Predicates.{yes, no, exists, same, size, content, bytes, attr, seen, atom}
 use Rattle.litmus_round_trip.proofs.Reading.{Reads, reads_blank}
 use Rattle.litmus_round_trip.proofs.Pieces.{Stops, reads_word, reads_number, reads_sign}
 use Rattle.litmus_round_trip.proofs.Paths.{reads_path}
@@ -57,7 +58,7 @@ equals : (rest : List ℕ) (more : List Lexeme) → Reads rest more → Reads (4
 equals rest more reads =
     closes (32 ∷ 61 ∷ 32 ∷ rest) (Sign 61 ∷ more) (reads_blank (61 ∷ 32 ∷ rest) (Sign 61 ∷ more) (reads_sign 61 (32 ∷ rest) more refl refl refl (reads_blank rest more reads)))
 
-pub true_written : IsWritten (codes "true") Tight pred.True constant_counts
+pub true_written : IsWritten (codes "true") Operand pred.True constant_counts
 true_written = record {
   lexemes = Word (codes "true") ∷ [];
   reads = λ rest more stops reads. reads_word (codes "true") rest more refl (name_stops rest stops) reads;
@@ -70,7 +71,7 @@ true_written = record {
   seen = refl;
 }
 
-pub false_written : IsWritten (codes "false") Tight pred.False constant_counts
+pub false_written : IsWritten (codes "false") Operand pred.False constant_counts
 false_written = record {
   lexemes = Word (codes "false") ∷ [];
   reads = λ rest more stops reads. reads_word (codes "false") rest more refl (name_stops rest stops) reads;
@@ -83,7 +84,7 @@ false_written = record {
   seen = refl;
 }
 
-pub exists_written : (path : List (List ℕ)) → IsTrue (is_formed_path path) → IsWritten (codes "exists(" ++ path_text path ++ codes ")") Tight (pred.Exists path) (atom_counts 0)
+pub exists_written : (path : List (List ℕ)) → IsTrue (is_formed_path path) → IsWritten (codes "exists(" ++ path_text path ++ codes ")") Operand (pred.Exists path) (atom_counts 0)
 exists_written path form = record {
   lexemes = Word (codes "exists") ∷ Sign 40 ∷ Path path ∷ Sign 41 ∷ [];
   reads = λ rest more stops reads.
@@ -99,7 +100,7 @@ exists_written path form = record {
 }
 
 pub same_written : (one two : List (List ℕ)) → IsTrue (is_formed_path one) → IsTrue (is_formed_path two)
-    → IsWritten (codes "same(" ++ path_text one ++ codes ", " ++ path_text two ++ codes ")") Tight (pred.Same one two) (atom_counts 0)
+    → IsWritten (codes "same(" ++ path_text one ++ codes ", " ++ path_text two ++ codes ")") Operand (pred.Same one two) (atom_counts 0)
 same_written one two first second = record {
   lexemes = Word (codes "same") ∷ Sign 40 ∷ Path one ∷ Sign 44 ∷ Path two ∷ Sign 41 ∷ [];
   reads = λ rest more stops reads.
@@ -118,10 +119,10 @@ same_written one two first second = record {
       seen_both (codes "same(" ++ path_text one ++ codes ", " ++ path_text two) (codes ")") names refl;
 }
 
-pub size_written : (path : List (List ℕ)) (value : ℕ) → IsTrue (is_formed_path path) → IsTrue (is_number value)
-    → IsWritten (codes "size(" ++ path_text path ++ codes ") = " ++ decimal value) Tight (pred.SizeIs path value) (atom_counts 0)
+pub size_written : (path : List (List ℕ)) (value : ℕ) → IsTrue (is_formed_path path) → IsTrue (is_narrow value)
+    → IsWritten (codes "size(" ++ path_text path ++ codes ") = " ++ decimal value) Operand (pred.SizeIs path value) (atom_counts 0)
 size_written path value form number = record {
-  lexemes = Word (codes "size") ∷ Sign 40 ∷ Path path ∷ Sign 41 ∷ Sign 61 ∷ Number value ∷ [];
+  lexemes = Word (codes "size") ∷ Sign 40 ∷ Path path ∷ Sign 41 ∷ Sign 61 ∷ Number (Some value) ∷ [];
   reads = λ rest more stops reads.
       regrouped _ _ _ (four (codes "size(") (path_text path) (codes ") = ") (decimal value) rest)
       (reads_word (codes "size") _ _ refl refl (opens _ _ (reads_path path _ _ form refl (equals _ _ (reads_number value rest more (in_range value number) (name_stops rest stops) reads)))));
@@ -130,14 +131,14 @@ size_written path value form number = record {
   words = refl;
   nots = refl;
   nested = λ d. (omega arith, omega arith);
-  small = (tt, (tt, (tt, (tt, (tt, (in_range value number, tt))))));
+  small = (tt, (tt, (tt, (tt, (tt, (tt, tt))))));
   seen =
       let start = seen_both (codes "size(") (path_text path) refl (seen_path path form) in
       seen_both (codes "size(" ++ path_text path ++ codes ") = ") (decimal value) (seen_both (codes "size(" ++ path_text path) (codes ") = ") start refl) (seen_number value (in_range value number));
 }
 
 pub content_written : (path : List (List ℕ)) (text : List ℕ) → IsTrue (is_formed_path path) → IsTrue (is_byte_text text)
-    → IsWritten (codes "content(" ++ path_text path ++ codes ") = " ++ quoted text) Tight (pred.ContentIs path text) (atom_counts (length text))
+    → IsWritten (codes "content(" ++ path_text path ++ codes ") = " ++ quoted text) Operand (pred.ContentIs path text) (atom_counts (length text))
 content_written path text form are_bytes = record {
   lexemes = Word (codes "content") ∷ Sign 40 ∷ Path path ∷ Sign 41 ∷ Sign 61 ∷ Text text ∷ [];
   reads = λ rest more stops reads.
@@ -155,11 +156,11 @@ content_written path text form are_bytes = record {
 }
 
 pub bytes_written : (path : List (List ℕ)) (at : ℕ) (text : List ℕ) → IsTrue (is_formed_path path) → at + length text ≤ 65536 → IsTrue (is_byte_text text)
-    → IsWritten (codes "bytes(" ++ path_text path ++ codes ", " ++ decimal at ++ codes ") = " ++ quoted text) Tight (pred.BytesAre path at text) (atom_counts (length text))
+    → IsWritten (codes "bytes(" ++ path_text path ++ codes ", " ++ decimal at ++ codes ") = " ++ quoted text) Operand (pred.BytesAre path at text) (atom_counts (length text))
 bytes_written path at text form fits are_bytes =
     let number : at < 2 ^ 32 = omega (arith, fits) in
     record {
-      lexemes = Word (codes "bytes") ∷ Sign 40 ∷ Path path ∷ Sign 44 ∷ Number at ∷ Sign 41 ∷ Sign 61 ∷ Text text ∷ [];
+      lexemes = Word (codes "bytes") ∷ Sign 40 ∷ Path path ∷ Sign 44 ∷ Number (Some at) ∷ Sign 41 ∷ Sign 61 ∷ Text text ∷ [];
       reads = λ rest more stops reads.
           regrouped _ _ _ (six (codes "bytes(") (path_text path) (codes ", ") (decimal at) (codes ") = ") (quoted text) rest)
           (reads_word (codes "bytes") _ _ refl refl (opens _ _ (reads_path path _ _ form refl (parts _ _ (reads_number at _ _ number refl (equals _ _ (reads_text text rest more are_bytes reads)))))));
@@ -168,7 +169,7 @@ bytes_written path at text form fits are_bytes =
       words = refl;
       nots = refl;
       nested = λ d. (omega arith, omega arith);
-      small = (tt, (tt, (tt, (tt, (number, (tt, (tt, (tt, tt))))))));
+      small = (tt, (tt, (tt, (tt, (tt, (tt, (tt, (tt, tt))))))));
       seen =
           let start = seen_both (codes "bytes(" ++ path_text path) (codes ", ") (seen_both (codes "bytes(") (path_text path) refl (seen_path path form)) refl in
           let place = seen_both (codes "bytes(" ++ path_text path ++ codes ", ") (decimal at) start (seen_number at number) in
@@ -183,10 +184,10 @@ one_if false l = refl
 one_more_if : (t : Bool) (l : Lexeme) → suc (length (cond t (l ∷ []) [])) ≡ suc (if t then 1 else 0)
 one_more_if t l = ap suc (one_if t l)
 
-pub attr_written : (path : List (List ℕ)) (key : List ℕ) (value : ℕ) → IsTrue (is_formed_path path) → IsTrue (is_word key) → IsTrue (is_number value)
-    → IsWritten (codes "attr(" ++ path_text path ++ codes ", " ++ key ++ codes ") = " ++ decimal value) Tight (pred.AttrIs path key value) (named_counts key)
+pub attr_written : (path : List (List ℕ)) (key : List ℕ) (value : ℕ) → IsTrue (is_formed_path path) → IsTrue (is_word key) → IsTrue (is_narrow value)
+    → IsWritten (codes "attr(" ++ path_text path ++ codes ", " ++ key ++ codes ") = " ++ decimal value) Operand (pred.AttrIs path key value) (named_counts key)
 attr_written path key value form word number = record {
-  lexemes = Word (codes "attr") ∷ Sign 40 ∷ Path path ∷ Sign 44 ∷ Word key ∷ Sign 41 ∷ Sign 61 ∷ Number value ∷ [];
+  lexemes = Word (codes "attr") ∷ Sign 40 ∷ Path path ∷ Sign 44 ∷ Word key ∷ Sign 41 ∷ Sign 61 ∷ Number (Some value) ∷ [];
   reads = λ rest more stops reads.
       regrouped _ _ _ (six (codes "attr(") (path_text path) (codes ", ") key (codes ") = ") (decimal value) rest)
       (reads_word (codes "attr") _ _ refl refl (opens _ _ (reads_path path _ _ form refl (parts _ _ (reads_word key _ _ word refl
@@ -196,7 +197,7 @@ attr_written path key value form word number = record {
   words = one_more_if (list_any (bytes_eq key) atom_words) (Word key);
   nots = one_if (list_any (bytes_eq key) (codes "not" ∷ [])) (Word key);
   nested = λ d. (omega arith, omega arith);
-  small = (tt, (tt, (tt, (tt, (tt, (tt, (tt, (in_range value number, tt))))))));
+  small = (tt, (tt, (tt, (tt, (tt, (tt, (tt, (tt, tt))))))));
   seen =
       let start = seen_both (codes "attr(" ++ path_text path) (codes ", ") (seen_both (codes "attr(") (path_text path) refl (seen_path path form)) refl in
       let name = seen_both (codes "attr(" ++ path_text path ++ codes ", ") key start (seen_word key word) in
@@ -204,7 +205,7 @@ attr_written path key value form word number = record {
       seen_both (codes "attr(" ++ path_text path ++ codes ", " ++ key ++ codes ") = ") (decimal value) behind (seen_number value (in_range value number));
 }
 
-pub seen_written : (word : List ℕ) → IsTrue (is_word word) → IsWritten (codes "seen(" ++ word ++ codes ")") Tight (pred.Seen word) (named_counts word)
+pub seen_written : (word : List ℕ) → IsTrue (is_word word) → IsWritten (codes "seen(" ++ word ++ codes ")") Operand (pred.Seen word) (named_counts word)
 seen_written word form = record {
   lexemes = Word (codes "seen") ∷ Sign 40 ∷ Word word ∷ Sign 41 ∷ [];
   reads = λ rest more stops reads.

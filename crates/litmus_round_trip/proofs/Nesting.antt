@@ -1,5 +1,5 @@
 -- Counts of tokens that are joined.
-use Rattle.std.proofs.Common.{◌≡◌, ℕ, suc, ◌+◌, ◌<◌, ◌≤◌, ◌^◌, max, List, [], ◌∷◌, ◌++◌, length, map, filter, sum, refl, ◌∙◌, ap, arith, length-append}
+use Rattle.std.proofs.Common.{◌≡◌, ℕ, suc, ◌+◌, ◌≤◌, max, Some, None, List, [], ◌∷◌, ◌++◌, length, map, filter, sum, refl, ◌∙◌, ap, arith, length-append}
 use Rattle.std.specs.Prelude.{⊤}
 use Rattle.std.proofs.lemmas.List.{map-append}
 use Rattle.std.proofs.lemmas.List.Sums.{sum_by-append}
@@ -55,10 +55,11 @@ texts_joined xs ys = ap sum (map-append text_size xs ys) ∙ sum_by-append (λ n
 pub words_joined : (words : List (List ℕ)) (xs ys : List Lexeme) → word_count words (xs ++ ys) ≡ word_count words xs + word_count words ys
 words_joined words xs ys = ap length (filter-append (is_word_of words) xs ys) ∙ length-append (filter (is_word_of words) xs) (filter (is_word_of words) ys)
 
--- a number that a file may have
+-- a number that has 32 bits at most, or no number
 abbrev pub IsSmall : Lexeme → Type 0
 IsSmall (Word word) = ⊤
-IsSmall (Number n) = n < 2 ^ 32
+IsSmall (Number (Some n)) = ⊤
+IsSmall (Number None) = ⊥
 IsSmall (Path path) = ⊤
 IsSmall (Text text) = ⊤
 IsSmall (Sign sign) = ⊤

@@ -1,8 +1,9 @@
 -- How words, numbers, paths and signs are read as they are written.
-use Rattle.std.proofs.Common.{◌≡◌, ℕ, ◌+◌, ◌-◌, ◌*◌, ◌<◌, ◌≤◌, ◌^◌, ◌==◌, min, IsTrue, ◌&&◌, List, [], ◌∷◌, ◌++◌, length, cond, Bool, true, false, Option, Some, None, refl, ◌∙◌, ap, arith}
+use Rattle.std.proofs.Common.{◌≡◌, ℕ, ◌+◌, ◌-◌, ◌*◌, ◌<◌, ◌≤◌, ◌^◌, ◌==◌, IsTrue, ◌&&◌, List, [], ◌∷◌, ◌++◌, length, cond, Bool, true, false, Option, Some, None, refl, sym, ◌∙◌, ap, subst, arith}
 use Rattle.std.specs.Prelude.{⊤, if◌then◌else◌, decimal, fold}
 use Rattle.std.specs.List.{prefix_len, list_all}
 use Rattle.std.specs.Str.Parse.{AllDigits}
+use Rattle.std.proofs.lemmas.Bool.{lt-ltb}
 use Rattle.std.proofs.lemmas.Bool.Decides.{nat_tests}
 use Rattle.std.proofs.lemmas.Str.Parse.{IsNumeralModel, numerals_by_fold, tells_digits, digit_from_value}
 use Rattle.std.proofs.lemmas.Fmt.{digits_decimal, digits_value-decimal, decimal_is_IsNumeral}
@@ -13,8 +14,8 @@ use Rattle.text_scan.specs.Forms.{is_word, HasForm}
 use Rattle.text_scan.specs.Kinds.{kind_of, len_behind, token_len}
 use Rattle.lexeme_reader.specs.declared.reading.Lexeme.{Lexeme}
 use Rattle.lexeme_reader.specs.declared.reading.Lexeme.TheVariants as says
-use Rattle.lexeme_reader.specs.Lexemes.{digits_value}
-use Rattle.litmus_round_trip.proofs.Reading.{Reads, IsTaken, reads_token}
+use Rattle.lexeme_reader.specs.Lexemes.{digits_value, narrowed}
+use Rattle.litmus_round_trip.proofs.Reading.{Reads, IsLongest, reads_token}
 
 pub left : (a b : Bool) → a && b ≡ true → a ≡ true
 left true b e = refl
@@ -43,7 +44,7 @@ unblank_front b bs none = ap (λ (t : Bool). cond t (1 + prefix_len is_blank bs)
 
 -- a token whose first byte tells its kind
 pub taken : (k : TokenKind) (b : ℕ) (bs rest : List ℕ) → kind_of b ≡ Some k → is_blank b ≡ false → len_behind (Some k) (bs ++ rest) ≡ length bs
-    → HasForm k (b ∷ bs) → IsTaken k (b ∷ bs) rest
+    → HasForm k (b ∷ bs) → IsLongest k (b ∷ bs) rest
 taken k b bs rest is unblank long form = record {
   first = is;
   whole = let here : token_len (b ∷ (bs ++ rest)) ≡ 1 + len_behind (Some k) (bs ++ rest) = ap (λ (o : Option TokenKind). 1 + len_behind o (bs ++ rest)) is in
@@ -104,22 +105,26 @@ digits_hold (d ∷ ds) all =
     let others = digits_hold ds all.1 in
     (both_hold (is_digit d) (list_all is_digit ds) (digit_told d range.0 range.1) others.0, both_hold (is_name_byte d) (list_all is_name_byte ds) (name_told d range.0 range.1) others.1)
 
-reads_digits : (ds rest : List ℕ) (n : ℕ) (ls : List Lexeme) → AllDigits 10 ds → 0 < length ds → digits_value ds ≡ n → n < 2 ^ 32 → Stops is_name_byte rest → Reads rest ls → Reads (ds ++ rest) (says.Number n ∷ ls)
-reads_digits [] rest n ls all some value small stops reads = absurd (omega (arith, some))
-reads_digits (d ∷ ds) rest n ls all some value small stops reads =
+reads_digits : (ds rest : List ℕ) (n : ℕ) (ls : List Lexeme) → AllDigits 10 ds → 0 < length ds → digits_value ds ≡ n → Stops is_name_byte rest → Reads rest ls → Reads (ds ++ rest) (says.Number (narrowed n) ∷ ls)
+reads_digits [] rest n ls all some value stops reads = absurd (omega (arith, some))
+reads_digits (d ∷ ds) rest n ls all some value stops reads =
     let range = digit_from_value d all.0 in
     let behind = digits_hold ds all.1 in
     let whole = digits_hold (d ∷ ds) all in
-    let least : n ≡ min (digits_value (d ∷ ds)) (2 ^ 32) = omega (arith, value, small) in
-    reads_token kind.Number (d ∷ ds) rest (says.Number n) ls
+    reads_token kind.Number (d ∷ ds) rest (says.Number (narrowed n)) ls
     (taken kind.Number d ds rest (number_kind d range.0 range.1) (digit_unblank d range.0 range.1) (prefix_whole is_name_byte ds rest behind.1 stops) whole.0)
-    (ap (λ (m : ℕ). says.Number m) least) reads
+    (ap (λ (m : ℕ). says.Number (narrowed m)) (sym value)) reads
 
 -- a number in decimal digits
-pub reads_number : (n : ℕ) (rest : List ℕ) (ls : List Lexeme) → n < 2 ^ 32 → Stops is_name_byte rest → Reads rest ls → Reads (decimal n ++ rest) (says.Number n ∷ ls)
-reads_number n rest ls small stops reads =
+pub reads_any_number : (n : ℕ) (rest : List ℕ) (ls : List Lexeme) → n < 2 ^ 32 → Stops is_name_byte rest → Reads rest ls → Reads (decimal n ++ rest) (says.Number (narrowed n) ∷ ls)
+reads_any_number n rest ls small stops reads =
     let fits : n < 2 ^ 64 = omega (arith, small) in
-    reads_digits (decimal n) rest n ls (digits_decimal our_numerals n fits) (decimal_is_IsNumeral n fits).0.0 (digits_value-decimal our_numerals n fits) small stops reads
+    reads_digits (decimal n) rest n ls (digits_decimal our_numerals n fits) (decimal_is_IsNumeral n fits).0.0 (digits_value-decimal our_numerals n fits) stops reads
+
+pub reads_number : (n : ℕ) (rest : List ℕ) (ls : List Lexeme) → n < 2 ^ 32 → Stops is_name_byte rest → Reads rest ls → Reads (decimal n ++ rest) (says.Number (Some n) ∷ ls)
+reads_number n rest ls small stops reads =
+    let narrow : narrowed n ≡ Some n = ap (λ (t : Bool). if t then Some n else None) (lt-ltb n (2 ^ 32) small) in
+    subst (λ (o : Option ℕ). Reads (decimal n ++ rest) (says.Number o ∷ ls)) narrow (reads_any_number n rest ls small stops reads)
 
 -- a sign
 pub reads_sign : (s : ℕ) (rest : List ℕ) (ls : List Lexeme) → kind_of s ≡ Some kind.Sign → is_sign s ≡ true → is_blank s ≡ false → Reads rest ls → Reads (s ∷ rest) (says.Sign s ∷ ls)

@@ -4,43 +4,44 @@ use Rattle.std.specs.Prelude.{codes}
 use Rattle.std.proofs.lemmas.Bool.Decides.{nat_tests}
 use Rattle.text_scan.specs.Bytes.{is_path_byte}
 use Rattle.text_scan.specs.Forms.{is_word}
+use Rattle.litmus_syntax.specs.declared.pred.Binding.TheVariants.{Disjunction, Conjunction, Operand}
 use Rattle.litmus_syntax.specs.declared.pred.Pred as whole
 use Rattle.litmus_syntax.specs.declared.pred.Pred.{Pred, fold-Pred, fold-roll-Pred}
 use Rattle.litmus_syntax.specs.declared.pred.Pred.TheOpen as open_pred
 use Rattle.litmus_syntax.specs.declared.pred.Pred.TheVariants as pred
 use Rattle.litmus_syntax.specs.Counts.{Counts, counts, counts_of, atom_words, operand_depth}
-use Rattle.litmus_syntax.specs.Forms.{is_formed_pred, is_formed_of, is_formed_path, is_number, is_byte_text}
+use Rattle.litmus_syntax.specs.Forms.{is_formed_pred, is_formed_of, is_formed_path, is_narrow, is_byte_text}
 use Rattle.litmus_syntax.specs.PredText.{Written, written, written_of, operand, pred_text}
 use Rattle.lexeme_reader.specs.declared.reading.Lexeme.{Lexeme}
 use Rattle.lexeme_reader.specs.declared.reading.Lexeme.TheVariants.{Word}
 use Rattle.predicate_reader.specs.Counts.{word_count, text_size}
-use Rattle.predicate_reader.specs.Predicates.{Loose, Middle, Tight, negation, both, either}
+use Rattle.predicate_reader.specs.Predicates.{negation, both, either}
 use Rattle.litmus_round_trip.proofs.Reading.{Reads, reads_blank}
 use Rattle.litmus_round_trip.proofs.Pieces.{Stops, left, right, reads_word}
 use Rattle.litmus_round_trip.proofs.Lines.{Visible, seen_both}
 use Rattle.litmus_round_trip.proofs.Nesting.{nested_word, nested_joined, texts_joined, words_joined, small_joined}
-use Rattle.litmus_round_trip.proofs.Written.{level, IsWritten, loosen, written_operand}
+use Rattle.litmus_round_trip.proofs.Written.{IsWritten, loosen, written_operand}
 use Rattle.litmus_round_trip.proofs.Atoms.{three, true_written, false_written, exists_written, same_written, size_written, content_written, bytes_written, attr_written, seen_written}
 use Rattle.litmus_round_trip.proofs.Induction.{Steps, by_steps}
 
 -- what holds of a predicate whose parts are formed
 record IsRead (p : Pred) : Type 0 where
   binding : (written p).binding ≡ (counts p).binding
-  is : IsWritten (written p).text (level (written p).binding) p (counts p)
+  is : IsWritten (written p).text (written p).binding p (counts p)
 
 abbrev Read : Pred → Type 0
 Read p = IsTrue (is_formed_pred p) → IsRead p
 
-read_as : (p : Pred) (w : Written) (c : Counts) → written p ≡ w → counts p ≡ c → w.binding ≡ c.binding → IsWritten w.text (level w.binding) p c → IsRead p
+read_as : (p : Pred) (w : Written) (c : Counts) → written p ≡ w → counts p ≡ c → w.binding ≡ c.binding → IsWritten w.text w.binding p c → IsRead p
 read_as p w c text count same is = record {
   binding = ap (λ (x : Written). x.binding) text ∙ same ∙ sym (ap (λ (x : Counts). x.binding) count);
-  is = subst (λ (x : Written). IsWritten x.text (level x.binding) p (counts p)) (sym text)
-      (subst (λ (x : Counts). IsWritten w.text (level w.binding) p x) (sym count) is);
+  is = subst (λ (x : Written). IsWritten x.text x.binding p (counts p)) (sym text)
+      (subst (λ (x : Counts). IsWritten w.text w.binding p x) (sym count) is);
 }
 
 -- `not` before an operand
-not_written : (text : List ℕ) (p : Pred) (c : Counts) → IsWritten text Tight p c
-    → IsWritten (codes "not " ++ text) Tight (pred.Not p) (record { texts = c.texts; words = c.words; nots = suc c.nots; depth = c.depth; binding = 2 })
+not_written : (text : List ℕ) (p : Pred) (c : Counts) → IsWritten text Operand p c
+    → IsWritten (codes "not " ++ text) Operand (pred.Not p) (record { texts = c.texts; words = c.words; nots = suc c.nots; depth = c.depth; binding = Operand })
 not_written text p c w = record {
   lexemes = Word (codes "not") ∷ w.lexemes;
   reads = λ rest more stops reads. reads_word (codes "not") (32 ∷ (text ++ rest)) (w.lexemes ++ more) refl refl (reads_blank (text ++ rest) (w.lexemes ++ more) (w.reads rest more stops reads));
@@ -94,8 +95,8 @@ counted_words words word xs ys m n none one two =
 joint_seen : (word a b : List ℕ) → IsJoint word → Visible a → Visible b → Visible (a ++ (32 ∷ word ++ 32 ∷ []) ++ b)
 joint_seen word a b joint x y = seen_both (a ++ (32 ∷ word ++ 32 ∷ [])) b (seen_both a (32 ∷ word ++ 32 ∷ []) x (seen_both (32 ∷ word) (32 ∷ []) joint.seen refl)) y
 
-and_written : (a b : List ℕ) (p q : Pred) (c d : Counts) → IsWritten a Middle p c → IsWritten b Tight q d
-    → IsWritten (a ++ codes " and " ++ b) Middle (pred.And p q) (record { texts = c.texts + d.texts; words = c.words + d.words; nots = c.nots + d.nots; depth = max c.depth d.depth; binding = 1 })
+and_written : (a b : List ℕ) (p q : Pred) (c d : Counts) → IsWritten a Conjunction p c → IsWritten b Operand q d
+    → IsWritten (a ++ codes " and " ++ b) Conjunction (pred.And p q) (record { texts = c.texts + d.texts; words = c.words + d.words; nots = c.nots + d.nots; depth = max c.depth d.depth; binding = Conjunction })
 and_written a b p q c d v w = record {
   lexemes = v.lexemes ++ Word (codes "and") ∷ w.lexemes;
   reads = λ rest more stops reads. joint_reads (codes "and") and_joint a b rest v.lexemes w.lexemes more v.reads (w.reads rest more stops reads);
@@ -108,8 +109,8 @@ and_written a b p q c d v w = record {
   seen = joint_seen (codes "and") a b and_joint v.seen w.seen;
 }
 
-or_written : (a b : List ℕ) (p q : Pred) (c d : Counts) → IsWritten a Loose p c → IsWritten b Middle q d
-    → IsWritten (a ++ codes " or " ++ b) Loose (pred.Or p q) (record { texts = c.texts + d.texts; words = c.words + d.words; nots = c.nots + d.nots; depth = max c.depth d.depth; binding = 0 })
+or_written : (a b : List ℕ) (p q : Pred) (c d : Counts) → IsWritten a Disjunction p c → IsWritten b Conjunction q d
+    → IsWritten (a ++ codes " or " ++ b) Disjunction (pred.Or p q) (record { texts = c.texts + d.texts; words = c.words + d.words; nots = c.nots + d.nots; depth = max c.depth d.depth; binding = Disjunction })
 or_written a b p q c d v w = record {
   lexemes = v.lexemes ++ Word (codes "or") ∷ w.lexemes;
   reads = λ rest more stops reads. joint_reads (codes "or") or_joint a b rest v.lexemes w.lexemes more v.reads (w.reads rest more stops reads);
@@ -137,7 +138,7 @@ steps = record {
   size = λ path size form.
       let here = sym (fold-roll-Pred Bool is_formed_of (open_pred.SizeIs path size)) ∙ form in
       read_as (pred.SizeIs path size) _ _ (fold-roll-Pred Written written_of (open_pred.SizeIs path size)) (fold-roll-Pred Counts counts_of (open_pred.SizeIs path size)) refl
-      (size_written path size (left (is_formed_path path) (is_number size) here) (right (is_formed_path path) (is_number size) here));
+      (size_written path size (left (is_formed_path path) (is_narrow size) here) (right (is_formed_path path) (is_narrow size) here));
   content = λ path text form.
       let here = sym (fold-roll-Pred Bool is_formed_of (open_pred.ContentIs path text)) ∙ form in
       read_as (pred.ContentIs path text) _ _ (fold-roll-Pred Written written_of (open_pred.ContentIs path text)) (fold-roll-Pred Counts counts_of (open_pred.ContentIs path text)) refl
@@ -151,35 +152,35 @@ steps = record {
       (bytes_written path at text (left (is_formed_path path) (is_byte_text text) front) fits (right (is_formed_path path) (is_byte_text text) front));
   attr = λ path key value form.
       let here = sym (fold-roll-Pred Bool is_formed_of (open_pred.AttrIs path key value)) ∙ form in
-      let front = left (is_formed_path path && is_word key) (is_number value) here in
+      let front = left (is_formed_path path && is_word key) (is_narrow value) here in
       read_as (pred.AttrIs path key value) _ _ (fold-roll-Pred Written written_of (open_pred.AttrIs path key value)) (fold-roll-Pred Counts counts_of (open_pred.AttrIs path key value)) refl
-      (attr_written path key value (left (is_formed_path path) (is_word key) front) (right (is_formed_path path) (is_word key) front) (right (is_formed_path path && is_word key) (is_number value) here));
+      (attr_written path key value (left (is_formed_path path) (is_word key) front) (right (is_formed_path path) (is_word key) front) (right (is_formed_path path && is_word key) (is_narrow value) here));
   seen = λ word form.
       let here = sym (fold-roll-Pred Bool is_formed_of (open_pred.Seen word)) ∙ form in
       read_as (pred.Seen word) _ _ (fold-roll-Pred Written written_of (open_pred.Seen word)) (fold-roll-Pred Counts counts_of (open_pred.Seen word)) refl (seen_written word here);
   negation = λ p read form.
       let inner = read (sym (fold-roll-Pred Bool is_formed_of (open_pred.Not p)) ∙ form) in
       read_as (pred.Not p) _ _ (fold-roll-Pred Written written_of (open_pred.Not p)) (fold-roll-Pred Counts counts_of (open_pred.Not p)) refl
-      (not_written (operand 2 (written p)) p (record (counts p) { depth = operand_depth 2 (counts p) }) (written_operand 2 (omega arith) (written p) p (counts p) inner.binding inner.is));
+      (not_written (operand Operand (written p)) p (record (counts p) { depth = operand_depth Operand (counts p) }) (written_operand Operand (written p) p (counts p) inner.binding inner.is));
   both = λ p q one two form.
       let here = sym (fold-roll-Pred Bool is_formed_of (open_pred.And p q)) ∙ form in
       let first = one (left (is_formed_pred p) (is_formed_pred q) here) in
       let second = two (right (is_formed_pred p) (is_formed_pred q) here) in
       read_as (pred.And p q) _ _ (fold-roll-Pred Written written_of (open_pred.And p q)) (fold-roll-Pred Counts counts_of (open_pred.And p q)) refl
-      (and_written (operand 1 (written p)) (operand 2 (written q)) p q (record (counts p) { depth = operand_depth 1 (counts p) }) (record (counts q) { depth = operand_depth 2 (counts q) })
-      (written_operand 1 (omega arith) (written p) p (counts p) first.binding first.is) (written_operand 2 (omega arith) (written q) q (counts q) second.binding second.is));
+      (and_written (operand Conjunction (written p)) (operand Operand (written q)) p q (record (counts p) { depth = operand_depth Conjunction (counts p) }) (record (counts q) { depth = operand_depth Operand (counts q) })
+      (written_operand Conjunction (written p) p (counts p) first.binding first.is) (written_operand Operand (written q) q (counts q) second.binding second.is));
   either = λ p q one two form.
       let here = sym (fold-roll-Pred Bool is_formed_of (open_pred.Or p q)) ∙ form in
       let first = one (left (is_formed_pred p) (is_formed_pred q) here) in
       let second = two (right (is_formed_pred p) (is_formed_pred q) here) in
       read_as (pred.Or p q) _ _ (fold-roll-Pred Written written_of (open_pred.Or p q)) (fold-roll-Pred Counts counts_of (open_pred.Or p q)) refl
-      (or_written (operand 0 (written p)) (operand 1 (written q)) p q (record (counts p) { depth = operand_depth 0 (counts p) }) (record (counts q) { depth = operand_depth 1 (counts q) })
-      (written_operand 0 (omega arith) (written p) p (counts p) first.binding first.is) (written_operand 1 (omega arith) (written q) q (counts q) second.binding second.is));
+      (or_written (operand Disjunction (written p)) (operand Conjunction (written q)) p q (record (counts p) { depth = operand_depth Disjunction (counts p) }) (record (counts q) { depth = operand_depth Conjunction (counts q) })
+      (written_operand Disjunction (written p) p (counts p) first.binding first.is) (written_operand Conjunction (written q) q (counts q) second.binding second.is));
 }
   where
     at_most : (n : ℕ) → nat_le n 65536 ≡ true → n ≤ 65536
     at_most n told = grind (arith, nat_tests)
 
 -- a formed predicate's text says tokens that are this predicate, with its counts
-pub pred_read : (p : Pred) → IsTrue (is_formed_pred p) → IsWritten (pred_text p) Loose p (counts p)
-pred_read p form = let r = by_steps Read steps p form in loosen 0 (written p).text (written p).binding p (counts p) (omega arith) r.is
+pub pred_read : (p : Pred) → IsTrue (is_formed_pred p) → IsWritten (pred_text p) Disjunction p (counts p)
+pred_read p form = let r = by_steps Read steps p form in loosen Disjunction (written p).text (written p).binding p (counts p) (omega arith) r.is

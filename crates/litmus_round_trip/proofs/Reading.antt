@@ -7,7 +7,8 @@ use Rattle.text_scan.specs.declared.scanning.Token.{Token}
 use Rattle.text_scan.specs.Bytes.{is_blank}
 use Rattle.text_scan.specs.Forms.{HasForm}
 use Rattle.text_scan.specs.Kinds.{kind_at_front, token_len}
-use Rattle.text_scan.specs.Tokens.{behind_blanks, token_text, IsToken, IsEnd, IsLast, Follow}
+use Rattle.text_scan.specs.Tokens.{behind_blanks, token_text, IsToken, IsLast, Follow}
+use Rattle.text_scan.specs.Comments.{IsEnd}
 use Rattle.lexeme_reader.specs.declared.reading.Lexeme.{Lexeme}
 use Rattle.lexeme_reader.specs.Lexemes.{Says, AreSaid, AreLexemes}
 
@@ -61,14 +62,14 @@ reads_blank rest ls reads front =
     move_start line (length front) (length (front ++ 32 ∷ [])) r.0 r.1 ls same r.2 r.3 r.4
 
 -- bytes that a token takes, before others
-pub record IsTaken (kind : TokenKind) (word rest : List ℕ) : Type 0 where
+pub record IsLongest (kind : TokenKind) (word rest : List ℕ) : Type 0 where
   pub first : kind_at_front (word ++ rest) ≡ Some kind
   pub whole : token_len (word ++ rest) ≡ length word
   pub form : HasForm kind word
   pub unblank : prefix_len is_blank (word ++ rest) ≡ 0
 
 -- a token says what its kind and its bytes say
-pub reads_token : (kind : TokenKind) (word rest : List ℕ) (l : Lexeme) (ls : List Lexeme) → IsTaken kind word rest → Says kind word l → Reads rest ls → Reads (word ++ rest) (l ∷ ls)
+pub reads_token : (kind : TokenKind) (word rest : List ℕ) (l : Lexeme) (ls : List Lexeme) → IsLongest kind word rest → Says kind word l → Reads rest ls → Reads (word ++ rest) (l ∷ ls)
 reads_token kind word rest l ls taken says reads front =
     let line : List ℕ = front ++ (word ++ rest) in
     let longer : (front ++ word) ++ rest ≡ line = append_assoc front word rest in

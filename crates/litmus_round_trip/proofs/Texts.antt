@@ -4,12 +4,10 @@ use Rattle.std.specs.Prelude.{if◌then◌else◌}
 use Rattle.std.specs.List.{flat_map}
 use Rattle.std.proofs.lemmas.Bool.{ne_eqb, eqb-true, eqb-false}
 use Rattle.std.proofs.lemmas.Bool.Decides.{nat_tests}
-use Rattle.text_scan.specs.declared.places.Place.{Place}
-use Rattle.text_scan.specs.declared.places.Place.TheVariants.{Outside, InText, Escaped}
 use Rattle.text_scan.specs.declared.scanning.TokenKind.TheVariants as kind
 use Rattle.text_scan.specs.Bytes.{is_hex_digit, is_line_byte}
 use Rattle.text_scan.specs.Items.{escaped, hex_value, IsItem, plain, short, hex, Spells, IsTextOf}
-use Rattle.text_scan.specs.Places.{place_behind, is_outside, text_len}
+use Rattle.text_scan.specs.Texts.{text_len}
 use Rattle.litmus_syntax.specs.Texts.{hex_digit, byte_text, quoted}
 use Rattle.litmus_syntax.specs.Forms.{is_byte_text}
 use Rattle.lexeme_reader.specs.declared.reading.Lexeme.{Lexeme}
@@ -20,15 +18,18 @@ use Rattle.litmus_round_trip.proofs.Pieces.{left, right, both_hold, taken}
 -- what is written for a byte is an item, which a text goes past
 record IsSpelled (b : ℕ) (item : List ℕ) : Type 0 where
   is : IsItem item b
-  past : (rest : List ℕ) → text_len InText (item ++ rest) ≡ length item + text_len InText rest
+  past : (rest : List ℕ) → text_len (item ++ rest) ≡ length item + text_len rest
 
-inside : (b : ℕ) → b ≢ 34 → b ≢ 92 → place_behind InText b ≡ InText
-inside b quote backslash =
-    ap (λ (t : Bool). if t then Outside else (if b == 92 then Escaped else InText)) (ne_eqb b 34 quote)
-    ∙ ap (λ (t : Bool). if t then Escaped else InText) (ne_eqb b 92 backslash)
+past_one : (b : ℕ) (rest : List ℕ) → b ≢ 34 → b ≢ 92 → text_len (b ∷ rest) ≡ 1 + text_len rest
+past_one b [] quote backslash = refl
+past_one b (c ∷ rest) quote backslash =
+    ap (λ (t : Bool). if t then 1 else (if b == 92 then 2 + text_len rest else 1 + text_len (c ∷ rest))) (ne_eqb b 34 quote)
+    ∙ ap (λ (t : Bool). if t then 2 + text_len rest else 1 + text_len (c ∷ rest)) (ne_eqb b 92 backslash)
 
-past_one : (b : ℕ) (rest : List ℕ) → b ≢ 34 → b ≢ 92 → text_len InText (b ∷ rest) ≡ 1 + text_len InText rest
-past_one b rest quote backslash = ap (λ (p : Place). if is_outside p then 1 else 1 + text_len p rest) (inside b quote backslash)
+-- a quote ends a text
+past_end : (rest : List ℕ) → text_len (34 ∷ rest) ≡ 1
+past_end [] = refl
+past_end (c ∷ rest) = refl
 
 spelled_plain : (b : ℕ) → b ≢ 34 → b ≢ 92 → nat_le 32 b && nat_le b 126 ≡ true → IsSpelled b (b ∷ [])
 spelled_plain b quote backslash range = record {
@@ -102,8 +103,8 @@ spells (b ∷ bs) all = (
 )
 
 -- and ends at its closing quote
-ends : (text rest : List ℕ) → is_byte_text text ≡ true → text_len InText ((flat_map byte_text text ++ 34 ∷ []) ++ rest) ≡ length (flat_map byte_text text ++ 34 ∷ [])
-ends [] rest all = refl
+ends : (text rest : List ℕ) → is_byte_text text ≡ true → text_len ((flat_map byte_text text ++ 34 ∷ []) ++ rest) ≡ length (flat_map byte_text text ++ 34 ∷ [])
+ends [] rest all = past_end rest
 ends (b ∷ bs) rest all =
     let here = spelled b (byte_small b (left (nat_lt b 256) (is_byte_text bs) all)) in
     let behind = ends bs rest (right (nat_lt b 256) (is_byte_text bs) all) in
@@ -112,8 +113,8 @@ ends (b ∷ bs) rest all =
     let cut : (first ++ flat_map byte_text bs) ++ 34 ∷ [] ≡ first ++ others = append_assoc first (flat_map byte_text bs) (34 ∷ []) in
     let shape : ((first ++ flat_map byte_text bs) ++ 34 ∷ []) ++ rest ≡ first ++ (others ++ rest) = ap (λ (x : List ℕ). x ++ rest) cut ∙ append_assoc first others rest in
     let long : length ((first ++ flat_map byte_text bs) ++ 34 ∷ []) ≡ length first + length others = ap length cut ∙ length-append first others in
-    let past : text_len InText (first ++ (others ++ rest)) ≡ length first + text_len InText (others ++ rest) = here.past (others ++ rest) in
-    let moved : text_len InText (((first ++ flat_map byte_text bs) ++ 34 ∷ []) ++ rest) ≡ text_len InText (first ++ (others ++ rest)) = ap (text_len InText) shape in
+    let past : text_len (first ++ (others ++ rest)) ≡ length first + text_len (others ++ rest) = here.past (others ++ rest) in
+    let moved : text_len (((first ++ flat_map byte_text bs) ++ 34 ∷ []) ++ rest) ≡ text_len (first ++ (others ++ rest)) = ap (text_len) shape in
     omega (arith, moved, past, behind, long)
 
 -- a text in its quotes

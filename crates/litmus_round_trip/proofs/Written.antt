@@ -1,25 +1,22 @@
 -- What is known of a written predicate: what it says, that its tokens are it, and what is counted of them.
-use Rattle.std.proofs.Common.{◌≡◌, ℕ, zero, suc, ◌≤◌, nat_lt, List, [], ◌∷◌, ◌++◌, map, sum, Bool, true, false, refl, sym, ap, subst, arith, append_assoc}
+use Rattle.std.proofs.Common.{◌≡◌, ℕ, zero, suc, ◌≤◌, List, [], ◌∷◌, ◌++◌, map, sum, Bool, true, false, refl, sym, ap, subst, arith, append_assoc}
 use Rattle.std.specs.Prelude.{codes, if◌then◌else◌}
-use Rattle.std.proofs.lemmas.Bool.Decides.{nat_tests}
+use Rattle.std.proofs.lemmas.Bool.{ltb-false}
 use Rattle.text_scan.specs.Bytes.{is_path_byte}
+use Rattle.litmus_syntax.specs.declared.pred.Binding.{Binding}
+use Rattle.litmus_syntax.specs.declared.pred.Binding.TheVariants.{Disjunction, Conjunction, Operand}
 use Rattle.litmus_syntax.specs.declared.pred.Pred.{Pred}
+use Rattle.litmus_syntax.specs.Bindings.{tightness, is_looser}
 use Rattle.litmus_syntax.specs.Counts.{Counts, atom_words, operand_depth}
 use Rattle.litmus_syntax.specs.PredText.{Written, operand}
 use Rattle.lexeme_reader.specs.declared.reading.Lexeme.{Lexeme}
 use Rattle.lexeme_reader.specs.declared.reading.Lexeme.TheVariants.{Sign}
 use Rattle.predicate_reader.specs.Counts.{word_count, text_size}
-use Rattle.predicate_reader.specs.Predicates.{Binding, Loose, Middle, Tight, IsExpression, inner, tighter, single}
+use Rattle.predicate_reader.specs.Predicates.{IsExpression, inner, tighter, single}
 use Rattle.litmus_round_trip.proofs.Reading.{Reads}
 use Rattle.litmus_round_trip.proofs.Pieces.{Stops, reads_sign}
 use Rattle.litmus_round_trip.proofs.Lines.{Visible, seen_both}
 use Rattle.litmus_round_trip.proofs.Nesting.{Nested, nested_inside, texts_joined, words_joined, AreSmall, small_joined}
-
--- the binding that a number stands for
-abbrev pub level : ℕ → Binding
-level zero = Loose
-level (suc zero) = Middle
-level (suc (suc n)) = Tight
 
 pub record IsWritten (text : List ℕ) (binding : Binding) (p : Pred) (c : Counts) : Type 0 where
   pub lexemes : List Lexeme
@@ -33,17 +30,18 @@ pub record IsWritten (text : List ℕ) (binding : Binding) (p : Pred) (c : Count
   pub seen : Visible text
 
 -- what binds tightly may stand where less is asked for
-pub loosened : (a b : ℕ) (ls : List Lexeme) (p : Pred) → b ≤ a → IsExpression (level a) ls p → IsExpression (level b) ls p
-loosened zero zero ls p least e = e
-loosened zero (suc b) ls p least e = absurd (omega (arith, least))
-loosened (suc zero) zero ls p least e = single ls p e
-loosened (suc zero) (suc zero) ls p least e = e
-loosened (suc zero) (suc (suc b)) ls p least e = absurd (omega (arith, least))
-loosened (suc (suc a)) zero ls p least e = single ls p (tighter ls p e)
-loosened (suc (suc a)) (suc zero) ls p least e = tighter ls p e
-loosened (suc (suc a)) (suc (suc b)) ls p least e = e
+pub loosened : (a b : Binding) (ls : List Lexeme) (p : Pred) → tightness b ≤ tightness a → IsExpression a ls p → IsExpression b ls p
+loosened Disjunction Disjunction ls p least e = e
+loosened Disjunction Conjunction ls p least e = absurd (omega (arith, least))
+loosened Disjunction Operand ls p least e = absurd (omega (arith, least))
+loosened Conjunction Disjunction ls p least e = single ls p e
+loosened Conjunction Conjunction ls p least e = e
+loosened Conjunction Operand ls p least e = absurd (omega (arith, least))
+loosened Operand Disjunction ls p least e = single ls p (tighter ls p e)
+loosened Operand Conjunction ls p least e = tighter ls p e
+loosened Operand Operand ls p least e = e
 
-pub loosen : (b : ℕ) (text : List ℕ) (a : ℕ) (p : Pred) (c : Counts) → b ≤ a → IsWritten text (level a) p c → IsWritten text (level b) p c
+pub loosen : (b : Binding) (text : List ℕ) (a : Binding) (p : Pred) (c : Counts) → tightness b ≤ tightness a → IsWritten text a p c → IsWritten text b p c
 loosen b text a p c least w = record {
   lexemes = w.lexemes;
   reads = w.reads;
@@ -56,13 +54,18 @@ loosen b text a p c least w = record {
   seen = w.seen;
 }
 
+most_tight : (b : Binding) → tightness b ≤ tightness Operand
+most_tight Disjunction = omega arith
+most_tight Conjunction = omega arith
+most_tight Operand = omega arith
+
 -- in parentheses it binds tightly
-enclosed : (b : ℕ) → b ≤ 2 → (text : List ℕ) (a : ℕ) (p : Pred) (c : Counts) → IsWritten text (level a) p c → IsWritten (40 ∷ text ++ 41 ∷ []) (level b) p (record c { depth = suc c.depth })
-enclosed b most text a p c w =
+enclosed : (b : Binding) (text : List ℕ) (a : Binding) (p : Pred) (c : Counts) → IsWritten text a p c → IsWritten (40 ∷ text ++ 41 ∷ []) b p (record c { depth = suc c.depth })
+enclosed b text a p c w =
     let open_ : List Lexeme = Sign 40 ∷ (w.lexemes ++ Sign 41 ∷ []) in
     let close : List Lexeme = Sign 41 ∷ [] in
-    let loose : IsExpression Loose w.lexemes p = loosened a 0 w.lexemes p (omega arith) w.means in
-    let tight : IsExpression Tight open_ p = inner w.lexemes p loose in
+    let loose : IsExpression Disjunction w.lexemes p = loosened a Disjunction w.lexemes p (omega arith) w.means in
+    let tight : IsExpression Operand open_ p = inner w.lexemes p loose in
     record {
       lexemes = open_;
       reads = λ rest more stops reads.
@@ -73,7 +76,7 @@ enclosed b most text a p c w =
           let whole : Reads ((text ++ 41 ∷ []) ++ rest) ((w.lexemes ++ close) ++ more) =
           subst (λ (b : List ℕ). Reads b ((w.lexemes ++ close) ++ more)) (sym bytes) (subst (λ (l : List Lexeme). Reads (text ++ 41 ∷ rest) l) (sym tokens) inside) in
           reads_sign 40 ((text ++ 41 ∷ []) ++ rest) ((w.lexemes ++ close) ++ more) refl refl refl whole;
-      means = loosened 2 b open_ p most tight;
+      means = loosened Operand b open_ p (most_tight b) tight;
       texts = let joined = texts_joined w.lexemes close in let inside = w.texts in omega (arith, joined, inside);
       words = let joined = words_joined atom_words w.lexemes close in let inside = w.words in omega (arith, joined, inside);
       nots = let joined = words_joined (codes "not" ∷ []) w.lexemes close in let inside = w.nots in omega (arith, joined, inside);
@@ -82,17 +85,17 @@ enclosed b most text a p c w =
       seen = seen_both text (41 ∷ []) w.seen refl;
     }
 
-not_below : (a b : ℕ) → nat_lt a b ≡ false → b ≤ a
-not_below a b told = grind (arith, nat_tests)
+not_looser : (a b : Binding) → is_looser a b ≡ false → tightness b ≤ tightness a
+not_looser a b told = ltb-false (tightness a) (tightness b) told
 
--- an operand at a place that asks for a binding of at most 2
-pub written_operand : (b : ℕ) → b ≤ 2 → (w : Written) (p : Pred) (c : Counts) → w.binding ≡ c.binding → IsWritten w.text (level w.binding) p c
-    → IsWritten (operand b w) (level b) p (record c { depth = operand_depth b c })
-written_operand b small w p c same is = by_test (nat_lt w.binding b) (nat_lt c.binding b) refl (ap (λ (n : ℕ). nat_lt n b) same)
+-- an operand at a place that asks for a binding
+pub written_operand : (b : Binding) (w : Written) (p : Pred) (c : Counts) → w.binding ≡ c.binding → IsWritten w.text w.binding p c
+    → IsWritten (operand b w) b p (record c { depth = operand_depth b c })
+written_operand b w p c same is = by_test (is_looser w.binding b) (is_looser c.binding b) refl (ap (λ (x : Binding). is_looser x b) same)
   where
-    by_test : (t u : Bool) → nat_lt w.binding b ≡ t → t ≡ u
-        → IsWritten (if t then 40 ∷ w.text ++ 41 ∷ [] else w.text) (level b) p (record c { depth = if u then suc c.depth else c.depth })
-    by_test true true told alike = enclosed b small w.text w.binding p c is
-    by_test false false told alike = loosen b w.text w.binding p c (not_below w.binding b told) is
+    by_test : (t u : Bool) → is_looser w.binding b ≡ t → t ≡ u
+        → IsWritten (if t then 40 ∷ w.text ++ 41 ∷ [] else w.text) b p (record c { depth = if u then suc c.depth else c.depth })
+    by_test true true told alike = enclosed b w.text w.binding p c is
+    by_test false false told alike = loosen b w.text w.binding p c (not_looser w.binding b told) is
     by_test true false told alike = cc
     by_test false true told alike = cc
