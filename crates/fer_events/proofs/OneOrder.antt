@@ -7,6 +7,7 @@ use Rattle.std.proofs.lemmas.List.Sorted.{IsPermutation-refl}
 use Rattle.std.proofs.lemmas.Bool.{cases_eq}
 use Rattle.std.proofs.lemmas.Bool.Decides.{nat_tests}
 use Rattle.fer_events.specs.Orders.{numbers, StandsBefore, IsValidOrder, all_pairs, pairs_from}
+use Rattle.fer_events.proofs.Ranges.{range_split, range_contains}
 use Rattle.fer_events.proofs.Times.{times, times-permutation, times-append, times_contained, contains_cases, times_once, times_within}
 
 -- the head is put away where it isn't a
@@ -81,18 +82,6 @@ pairs_below low (suc n) a b h = elim (Contains-append_cases _ (pairs_from (low +
       let below = pairs_below (low + 1) n a b later in
       (omega (arith, below.0), below.1, omega (arith, below.2))
 ]
-
--- the numbers from one on, cut at a place
-pub range_split : (low m n : ℕ) → range_with_len low (m + n) ≡ range_with_len low m ++ range_with_len (low + m) n
-range_split low zero n = let e : zero + n ≡ n = omega arith in let f : low + zero ≡ low = omega arith in ap (range_with_len low) e ∙ ap (λ (l : ℕ). range_with_len l n) (sym f)
-range_split low (suc m) n =
-    let longer : suc m + n ≡ suc (m + n) = omega arith in
-    let further : low + 1 + m ≡ low + suc m = omega arith in
-    ap (range_with_len low) longer ∙ ap (λ (l : List ℕ). low ∷ l) (range_split (low + 1) m n ∙ ap (λ (k : ℕ). range_with_len (low + 1) m ++ range_with_len k n) further)
-
-pub range_contains : (low n a : ℕ) → low ≤ a → a < low + n → Contains (range_with_len low n) a
-range_contains low n a above below =
-    (a - low, omega (arith, length-range_with_len low n), get_or-range_with_len low n (a - low) a (omega arith) ∙ omega arith)
 
 -- the numbers in program order are a valid order under all pairs
 pub numbers_valid : (n : ℕ) → IsValidOrder n (all_pairs n) (numbers n)

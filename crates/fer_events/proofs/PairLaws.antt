@@ -1,5 +1,5 @@
 -- Laws of lists of pairs, and of their matrix of bits.
-use Rattle.std.proofs.Common.{◌≡◌, ℕ, zero, suc, ◌+◌, ◌-◌, ◌*◌, ◌%◌, ◌^◌, ◌<◌, ◌≤◌, ◌≢◌, inl, inr, Bool, true, false, ◌&&◌, ◌||◌, eqb, leb, ltb, List, [], ◌∷◌, map, length, set, get_or, Contains, refl, sym, ◌∙◌, ap, bit_or, filter, arith}
+use Rattle.std.proofs.Common.{◌≡◌, ℕ, zero, suc, ◌+◌, ◌-◌, ◌*◌, ◌%◌, ◌^◌, ◌<◌, ◌≤◌, ◌≢◌, inl, inr, Bool, true, false, ◌&&◌, ◌||◌, eqb, leb, ltb, List, [], ◌∷◌, map, length, set, get_or, Contains, refl, sym, ◌∙◌, ap, subst, bit_or, filter, arith}
 use Rattle.std.specs.List.{flat_map, list_all, range_with_len}
 use Rattle.std.specs.Int.{w128}
 use mir.Val.{bits}
@@ -7,7 +7,7 @@ use Rattle.std.proofs.lemmas.Bool.{cases_eq, cases_Bool, and_parts, and_from, eq
 use Rattle.std.proofs.lemmas.Bool.Decides.{nat_tests}
 use Rattle.std.proofs.lemmas.List.{get_or-set_other, get_or-set_same}
 use Rattle.std.proofs.lemmas.List.Elements.{filter_agree}
-use Rattle.std.proofs.lemmas.List.Folds.{list_any-append, list_any-from_Any}
+use Rattle.std.proofs.lemmas.List.Folds.{list_any-append, list_any-from_Any, Any-from_list_any}
 use Rattle.std.proofs.lemmas.Map.Views.{any-filter_same}
 use Rattle.std.proofs.lemmas.Nat.Bits.{bit_at_set_same, bit_at_set_other, bit_at-zero}
 use Rattle.fer_events.specs.Pairs.{square, has_pair}
@@ -27,6 +27,12 @@ pub has_self : (xs : List (ℕ × ℕ)) (q : ℕ × ℕ) → Contains xs q → h
 has_self xs q (k, l, e) =
     list_any-from_Any (λ (p : ℕ × ℕ). eqb p.0 q.0 && eqb p.1 q.1) xs
     (k, q, l, e, and_from _ _ (eq-eqb q.0 q.0 refl) (eq-eqb q.1 q.1 refl))
+
+-- and has no others
+pub has_only : (xs : List (ℕ × ℕ)) (a b : ℕ) → has_pair xs a b ≡ true → Contains xs (a, b)
+has_only xs a b h =
+    let found = Any-from_list_any (λ (p : ℕ × ℕ). eqb p.0 a && eqb p.1 b) xs h in
+    subst (λ (q : ℕ × ℕ). Contains xs q) (same_pair found.1 a b found.4) (found.0, found.2, found.3)
 
 keeps_own : (f g : ℕ × ℕ → Bool) (xs : List (ℕ × ℕ)) → ((q : ℕ × ℕ) → Contains xs q → g q ≡ true) → filter f xs ≡ filter (λ q. f q && g q) xs
 keeps_own f g [] h = refl

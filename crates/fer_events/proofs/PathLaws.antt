@@ -1,4 +1,4 @@
--- Laws of paths.
+-- General lemmas on paths, as lists of components that are compared one by one.
 use Rattle.std.proofs.Common.{bytes_eq, ◌≡◌, ℕ, Bool, true, false, ◌&&◌, List, [], ◌∷◌, ◌++◌, refl, ◌∙◌, ap}
 use Rattle.std.proofs.lemmas.Bool.{and_right}
 use Rattle.fer_events.specs.Truth.{same_path}

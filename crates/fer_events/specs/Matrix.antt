@@ -1,4 +1,4 @@
--- A matrix of bits, a row for each first number and a bit for each second, both counted from 1.
+-- Private: a matrix of bits, a row for each first number and a bit for each second, both counted from 1.
 use Rattle.std.specs.Prelude.{ℕ, ◌-◌, Bool, ◌==◌, List, filter, slice_index}
 use Rattle.std.specs.Int.{bit_at}
 use Rattle.fer_events.specs.Pairs.{square}

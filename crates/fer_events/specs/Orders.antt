@@ -1,5 +1,5 @@
 -- What a crash is: an order of all events that keeps what has to be kept, and a cut. Events are numbered from 1.
-use Rattle.std.specs.Prelude.{◌≡◌, ℕ, zero, suc, ◌+◌, ◌-◌, ◌≤◌, ◌<◌, List, [], ◌++◌, length, take, map, Contains, IsPermutation, slice_get, Some}
+use Rattle.std.specs.Prelude.{◌≡◌, ℕ, zero, suc, ◌+◌, ◌-◌, ◌≤◌, ◌<◌, List, [], ◌++◌, length, take, map, All, Contains, IsPermutation, slice_get, Some}
 use Rattle.std.specs.List.{range_with_len}
 use Rattle.fer_events.specs.declared.event.Event.{Event}
 use Rattle.fer_events.specs.declared.event.Crash.{Crash}
@@ -35,6 +35,10 @@ pub record IsCrash (events : List Event) (kept : List (ℕ × ℕ)) (crash : Cra
   pub valid : IsValidOrder (length events) kept crash.order
   pub within : crash.cut ≤ length events
   pub whole : (a b : ℕ) → SameTransaction events a b → Contains (before_cut crash) a → Contains (before_cut crash) b
+
+-- each pair is of two of n events, in program order
+abbrev pub AreForward : ℕ → List (ℕ × ℕ) → Type 0
+AreForward n pairs = All (λ p. (1 ≤ p.0) × (p.0 < p.1) × (p.1 ≤ n)) pairs
 
 -- the pairs (a, b) with a < b of the n numbers from `low` on, by a, then b
 abbrev pub pairs_from : ℕ → ℕ → List (ℕ × ℕ)

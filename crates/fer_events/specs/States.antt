@@ -9,7 +9,8 @@ use Rattle.fer_events.specs.declared.tables.AttrValue.{AttrValue}
 use Rattle.fer_events.specs.Orders.{before_cut}
 use Rattle.fer_events.specs.Tables.{Trace, file_count}
 
--- the file that each slot holds; each file's size, its 65,536 bytes and its value of each key; which words were seen
+-- the file that each slot holds; each file's size and its 65,536 bytes; for each key, each file's value; which words were
+-- seen
 pub record State : Type 0 where
   pub slots : List (Option ℕ)
   pub sizes : List ℕ
@@ -31,7 +32,7 @@ start_state t = record {
   slots = t.start.slots;
   sizes = map (λ content. length content) t.start.contents;
   bytes = map padded t.start.contents;
-  attrs = map (λ file. map (value_set t.start.attrs file) (range_with_len 0 (length t.keys))) (range_with_len 0 (file_count t));
+  attrs = map (λ key. map (λ file. value_set t.start.attrs file key) (range_with_len 0 (file_count t))) (range_with_len 0 (length t.keys));
   seen = replicate (length t.words) false;
 }
 
@@ -55,7 +56,7 @@ abbrev pub effected : State → Option ℕ → Option ℕ → Effect → State
 effected s slot file (Bytes at text) = record s { bytes = at_place file (written at text) s.bytes }
 effected s slot file (Grow at text size) = record s { bytes = at_place file (written at text) s.bytes; sizes = at_place file (λ _. size) s.sizes }
 effected s slot file (Cut size) = record s { bytes = at_place file (cleared size) s.bytes; sizes = at_place file (λ _. size) s.sizes }
-effected s slot file (SetAttr key value) = record s { attrs = at_place file (at_place (Some key) (λ _. Some value)) s.attrs }
+effected s slot file (SetAttr key value) = record s { attrs = at_place (Some key) (at_place file (λ _. Some value)) s.attrs }
 effected s slot file PutName = record s { slots = at_place slot (λ _. file) s.slots }
 effected s slot file ClearName = record s { slots = at_place slot (λ _. None) s.slots }
 effected s slot file (See word) = record s { seen = at_place (Some word) (λ _. true) s.seen }

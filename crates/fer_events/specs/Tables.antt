@@ -1,6 +1,8 @@
 -- The events of a file program with the names that their numbers stand for, and with the state that the setup left.
-use Rattle.std.specs.Prelude.{◌≡◌, ◌≢◌, ℕ, ◌+◌, ◌<◌, ◌≤◌, ⊤, Bool, true, false, List, length, Option, Some, is_some, IfSome, slice_get, option_map, All, AllPairs}
+use Rattle.std.specs.Prelude.{◌≡◌, ◌≢◌, ℕ, ◌+◌, ◌<◌, ◌≤◌, ⊤, Bool, true, false, List, length, Option, Some, is_some, IfSome, slice_get, option_map, All, AllPairs, IsTrue}
 use Rattle.std.specs.List.Sorted.{IsNonDecreasingBy}
+use Rattle.text_scan.specs.Forms.{is_word, is_component}
+use Rattle.litmus_syntax.specs.Forms.{is_formed_path}
 use Rattle.fer_events.specs.declared.event.Event.{Event}
 use Rattle.fer_events.specs.declared.event.Kind.{Kind}
 use Rattle.fer_events.specs.declared.event.Kind.TheVariants.{Write, Extend, Trunc, Attr, Link, Unlink, Fsync, FsyncDir, Sync, Mark}
@@ -69,8 +71,8 @@ pub record IsEventOf (t : Trace) (e : Event) : Type 0 where
   pub slot_there : IfSome e.slot (λ s. option_map (λ n. Some n.dir) (slice_get t.slots s) ≡ Some e.dir)
   pub effect : HasEffect t e.kind e.effect
 
--- the rules of a trace: every number names a thing that is there, nothing is named twice, calls and transactions never
--- fall, and the limits on events, files, directories, names and keys hold
+-- the rules of a trace: every number names a thing that is there, names have their forms, nothing is named twice, calls and
+-- transactions never fall, and the limits on events, files, directories, names and keys hold
 pub record IsTrace (t : Trace) : Type 0 where
   pub slots_held : length t.start.slots ≡ length t.slots
   pub files_there : All (λ held. IfSome held (λ f. f < file_count t)) t.start.slots
@@ -78,6 +80,10 @@ pub record IsTrace (t : Trace) : Type 0 where
   pub attrs_there : All (λ a. (a.file < file_count t) × (a.key < length t.keys)) t.start.attrs
   pub attrs_once : AllPairs (λ a b. a.file ≡ b.file → a.key ≢ b.key) t.start.attrs
   pub dirs_there : All (λ s. s.dir < length t.dirs) t.slots
+  pub dirs_formed : All (λ dir. IsTrue (is_formed_path dir)) t.dirs
+  pub slots_formed : All (λ s. IsTrue (is_component s.name)) t.slots
+  pub keys_formed : All (λ key. IsTrue (is_word key)) t.keys
+  pub words_formed : All (λ word. IsTrue (is_word word)) t.words
   pub dirs_once : AllPairs (λ a b. a ≢ b) t.dirs
   pub slots_once : AllPairs (λ a b. a ≢ b) t.slots
   pub keys_once : AllPairs (λ a b. a ≢ b) t.keys

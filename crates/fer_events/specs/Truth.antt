@@ -49,7 +49,7 @@ has_bytes s at text f = nat_le (at + length text) (size_of s f) && bytes_eq (tak
 
 -- the file has this value of the key
 abbrev pub has_value : State → Option ℕ → ℕ → ℕ → Bool
-has_value s key value f = option_map_or (λ v. v == value) (option_and_then (λ v. v) (item_at (unwrap_or (slice_get s.attrs f) []) key)) false
+has_value s key value f = option_map_or (λ v. v == value) (option_and_then (λ v. v) (slice_get (unwrap_or (item_at s.attrs key) []) f)) false
 
 -- an atom is false where its path holds no file
 abbrev pub on_file : Option ℕ → (ℕ → Bool) → Bool

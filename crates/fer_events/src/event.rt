@@ -55,7 +55,7 @@ pub struct Event {
     pub slot: Option<u32>,
     /// The call of the body that makes the event.
     pub call: u32,
-    /// Events of one transaction reach the disk together.
+    /// Of one transaction all events reach the disk before the crash, or none.
     pub txn: u32,
     pub effect: Effect,
 }

@@ -6,10 +6,12 @@
 #![tactic(auto)]
 
 mod event;
+mod laws;
 mod pairs;
 mod tables;
 
 pub use event::{Crash, Effect, Event, Kind};
+pub use laws::{all_pairs_keep_program_order, pairs_are_found, syncs_are_formed};
 pub use pairs::Pairs;
 pub use tables::{AttrValue, Events, SlotName, Start};
 

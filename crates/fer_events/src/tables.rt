@@ -74,7 +74,7 @@ impl Start {
 }
 
 /// The events of a file program in program order, the state before them, and what their numbers name. Every number
-/// names a thing that is there, nothing is named twice, and calls and transactions never fall.
+/// names a thing that is there, names have their forms, nothing is named twice, and calls and transactions never fall.
 #[derive(Debug, Drop)]
 pub struct Events {
     start: Start,
@@ -118,18 +118,23 @@ impl Events {
         }
     }
 
-    /// The state after the setup. What the type holds is known of it.
+    /// Each value keeps to the rules of a trace: this is known wherever there are events.
+    pub fn keeps_rules(&self)
+        ensures { IsTrace self.now }
+    {
+        let _start = &self.start;
+    }
+
+    /// The state after the setup.
     pub fn start(&self) -> &Start
-        ensures start { result.now ≡ self.now.start }
-        ensures rules { IsTrace self.now }
+        ensures { result.now ≡ self.now.start }
     {
         &self.start
     }
 
-    /// The events, of which there are at most 128. What the type holds is known of them.
+    /// The events, of which there are at most 128.
     pub fn events(&self) -> &[Event]
-        ensures events { result.now ≡ self.now.events }
-        ensures rules { IsTrace self.now }
+        ensures { result.now ≡ self.now.events }
     {
         self.events.as_slice()
     }

@@ -1,4 +1,4 @@
--- How a table of slots is kept: each name once, and for each slot its directory and the number of its name.
+-- Private: how a table of slots is kept: each name once, and for each slot its directory and the number of its name.
 use Rattle.std.specs.Prelude.{◌≡◌, ℕ, List, [], get_or, nat_eq, Some, position}
 use Rattle.std.specs.Cmp.Lexicographic.{pointwise}
 use Rattle.fer_events.specs.declared.tables.SlotName.{SlotName}
