@@ -11,25 +11,25 @@ use Rattle.fer_events.specs.Tables.{Trace, IsTrace, file_count}
 use Rattle.fer_events.specs.States.{State, start_state, value_set, at_place, written, cleared, effected, after_event}
 use Rattle.crash_state.specs.Fits.{Fits}
 use Rattle.crash_state.specs.Whole.{IsWhole}
-use Rattle.crash_state.proofs.Places.{length-at_place, All-at_place}
+use Rattle.fer_events.proofs.AtPlace.{length-at_place, All-at_place}
 
 effected_fits : (t : Trace) (s : State) (slot file : Option ℕ) (effect : Effect) → Fits s t → Fits (effected s slot file effect) t
-effected_fits t s slot file (Bytes at text) fits = record { slots = fits.slots; sizes = fits.sizes; bytes = length-at_place file (written at text) s.bytes ∙ fits.bytes; attrs = fits.attrs; keys = fits.keys; words = fits.words }
-effected_fits t s slot file (Grow at text size) fits = record { slots = fits.slots; sizes = length-at_place file (λ _. size) s.sizes ∙ fits.sizes; bytes = length-at_place file (written at text) s.bytes ∙ fits.bytes; attrs = fits.attrs; keys = fits.keys; words = fits.words }
-effected_fits t s slot file (Cut size) fits = record { slots = fits.slots; sizes = length-at_place file (λ _. size) s.sizes ∙ fits.sizes; bytes = length-at_place file (cleared size) s.bytes ∙ fits.bytes; attrs = fits.attrs; keys = fits.keys; words = fits.words }
+effected_fits t s slot file (Bytes at text) fits = record { slots = fits.slots; sizes = fits.sizes; bytes = length-at_place file (written at text) s.bytes ∙ fits.bytes; keys = fits.keys; values = fits.values; words = fits.words }
+effected_fits t s slot file (Grow at text size) fits = record { slots = fits.slots; sizes = length-at_place file (λ _. size) s.sizes ∙ fits.sizes; bytes = length-at_place file (written at text) s.bytes ∙ fits.bytes; keys = fits.keys; values = fits.values; words = fits.words }
+effected_fits t s slot file (Cut size) fits = record { slots = fits.slots; sizes = length-at_place file (λ _. size) s.sizes ∙ fits.sizes; bytes = length-at_place file (cleared size) s.bytes ∙ fits.bytes; keys = fits.keys; values = fits.values; words = fits.words }
 effected_fits t s slot file (SetAttr key value) fits =
-    let change : List (Option ℕ) → List (Option ℕ) = at_place (Some key) (λ _. Some value) in
+    let change : List (Option ℕ) → List (Option ℕ) = at_place file (λ _. Some value) in
     record {
       slots = fits.slots;
       sizes = fits.sizes;
       bytes = fits.bytes;
-      attrs = length-at_place file change s.attrs ∙ fits.attrs;
-      keys = All-at_place (λ values. length values ≡ length t.keys) file change s.attrs (λ values len. length-at_place (Some key) (λ _. Some value) values ∙ len) fits.keys;
+      keys = length-at_place (Some key) change s.attrs ∙ fits.keys;
+      values = All-at_place (λ values. length values ≡ file_count t) (Some key) change s.attrs (λ values len. length-at_place file (λ _. Some value) values ∙ len) fits.values;
       words = fits.words;
     }
-effected_fits t s slot file PutName fits = record { slots = length-at_place slot (λ _. file) s.slots ∙ fits.slots; sizes = fits.sizes; bytes = fits.bytes; attrs = fits.attrs; keys = fits.keys; words = fits.words }
-effected_fits t s slot file ClearName fits = record { slots = length-at_place slot (λ _. None) s.slots ∙ fits.slots; sizes = fits.sizes; bytes = fits.bytes; attrs = fits.attrs; keys = fits.keys; words = fits.words }
-effected_fits t s slot file (See word) fits = record { slots = fits.slots; sizes = fits.sizes; bytes = fits.bytes; attrs = fits.attrs; keys = fits.keys; words = length-at_place (Some word) (λ _. true) s.seen ∙ fits.words }
+effected_fits t s slot file PutName fits = record { slots = length-at_place slot (λ _. file) s.slots ∙ fits.slots; sizes = fits.sizes; bytes = fits.bytes; keys = fits.keys; values = fits.values; words = fits.words }
+effected_fits t s slot file ClearName fits = record { slots = length-at_place slot (λ _. None) s.slots ∙ fits.slots; sizes = fits.sizes; bytes = fits.bytes; keys = fits.keys; values = fits.values; words = fits.words }
+effected_fits t s slot file (See word) fits = record { slots = fits.slots; sizes = fits.sizes; bytes = fits.bytes; keys = fits.keys; values = fits.values; words = length-at_place (Some word) (λ _. true) s.seen ∙ fits.words }
 effected_fits t s slot file Nothing fits = fits
 
 pub after_event_fits : (t : Trace) (s : State) (e : Event) → Fits s t → Fits (after_event s e) t
@@ -40,8 +40,8 @@ start_state_fits t rules = record {
   slots = rules.slots_held;
   sizes = length-map t.start.contents (λ content. length content);
   bytes = length-map t.start.contents _;
-  attrs = length-map-range_with_len (λ file. map (value_set t.start.attrs file) (range_with_len 0 (length t.keys))) 0 (file_count t);
-  keys = All-map (λ values. length values ≡ length t.keys) (λ file. map (value_set t.start.attrs file) (range_with_len 0 (length t.keys))) (range_with_len 0 (file_count t)) (λ k d below. length-map-range_with_len (value_set t.start.attrs _) 0 (length t.keys));
+  keys = length-map-range_with_len (λ key. map (λ file. value_set t.start.attrs file key) (range_with_len 0 (file_count t))) 0 (length t.keys);
+  values = All-map (λ values. length values ≡ file_count t) (λ key. map (λ file. value_set t.start.attrs file key) (range_with_len 0 (file_count t))) (range_with_len 0 (length t.keys)) (λ k d below. length-map-range_with_len (λ file. value_set t.start.attrs file _) 0 (file_count t));
   words = length-replicate (length t.words) false;
 }
 

@@ -3,11 +3,11 @@ use Rattle.std.specs.Prelude.{◌≡◌, length, All}
 use Rattle.fer_events.specs.Tables.{Trace, file_count}
 use Rattle.fer_events.specs.States.{State}
 
--- the state has as many files, slots and words as the trace, and each file has a place for each key
+-- the state has as many slots, files, keys and words as the trace, and a place for each file's value of each key
 pub record Fits (s : State) (t : Trace) : Type 0 where
   pub slots : length s.slots ≡ length t.slots
   pub sizes : length s.sizes ≡ file_count t
   pub bytes : length s.bytes ≡ file_count t
-  pub attrs : length s.attrs ≡ file_count t
-  pub keys : All (λ values. length values ≡ length t.keys) s.attrs
+  pub keys : length s.attrs ≡ length t.keys
+  pub values : All (λ values. length values ≡ file_count t) s.attrs
   pub words : length s.seen ≡ length t.words

@@ -1,4 +1,4 @@
--- What is true of every state that this crate makes, and when a state has room for an event.
+-- Private: what is true of every state that this crate makes, and when a state has room for an event.
 use Rattle.std.specs.Prelude.{◌+◌, ◌<◌, ◌≤◌, length, All, IfSome}
 use Rattle.fer_events.specs.declared.event.Event.{Event}
 use Rattle.fer_events.specs.declared.event.Effect.{Effect}
@@ -15,7 +15,7 @@ abbrev pub HasPlace : State → Effect → Type 0
 HasPlace s (Bytes at text) = at + length text ≤ 65536
 HasPlace s (Grow at text size) = (at + length text ≤ 65536) × (size ≤ 65536)
 HasPlace s (Cut size) = size ≤ 65536
-HasPlace s (SetAttr key value) = All (λ values. key < length values) s.attrs
+HasPlace s (SetAttr key value) = key < length s.attrs
 HasPlace s PutName = Unit {0}
 HasPlace s ClearName = Unit {0}
 HasPlace s (See word) = word < length s.seen
@@ -25,6 +25,6 @@ HasPlace s Nothing = Unit {0}
 pub record HasRoom (s : State) (e : Event) : Type 0 where
   pub sizes : IfSome e.file (λ f. f < length s.sizes)
   pub bytes : IfSome e.file (λ f. f < length s.bytes)
-  pub attrs : IfSome e.file (λ f. f < length s.attrs)
+  pub values : IfSome e.file (λ f. All (λ values. f < length values) s.attrs)
   pub slots : IfSome e.slot (λ n. n < length s.slots)
   pub place : HasPlace s e.effect

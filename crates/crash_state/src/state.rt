@@ -19,6 +19,7 @@ pub struct State {
     slots: Vec<Option<u32>>,
     sizes: Vec<u32>,
     bytes: Vec<FileBytes>,
+    /// For each key, each file's value.
     attrs: Vec<Seq<Option<u32>>>,
     seen: Vec<bool>,
 }
@@ -55,7 +56,7 @@ impl State {
             slots: vec![in alloc; None; events.slots().len()]?,
             sizes: vec![in alloc; 0; files]?,
             bytes: unset_files(alloc, files)?,
-            attrs: unset_values(alloc, files, events.keys().len())?,
+            attrs: unset_values(alloc, events.keys().len(), files)?,
             seen: vec![in alloc; false; events.words().len()]?,
         })
     }
@@ -65,12 +66,11 @@ impl State {
         ensures { IsTrue result ↔ Fits self.now events.now }
     {
         let files = events.start().contents().len();
-        let keys = events.keys().len();
         self.slots.len() == events.slots().len()
             && self.sizes.len() == files
             && self.bytes.len() == files
-            && self.attrs.len() == files
-            && self.attrs.iter().all(|values| values.len() == keys)
+            && self.attrs.len() == events.keys().len()
+            && self.attrs.iter().all(|values| values.len() == files)
             && self.seen.len() == events.words().len()
     }
 }
@@ -86,18 +86,18 @@ fn unset_files(alloc: Global, files: usize) -> Result<Vec<FileBytes>, AllocError
     Ok(all)
 }
 
-/// Room for this many files' values of this many keys.
+/// Room for the values of this many keys of this many files.
 fn unset_values(
     alloc: Global,
-    files: usize,
     keys: usize,
+    files: usize,
 ) -> Result<Vec<Seq<Option<u32>>>, AllocError>
-    ensures len { IfOk result (λ v. vec_len v ≡ files) }
-    ensures keys { IfOk result (λ v. All (λ values. length values ≡ keys) v.items) }
+    ensures keys { IfOk result (λ v. vec_len v ≡ keys) }
+    ensures files { IfOk result (λ v. All (λ values. length values ≡ files) v.items) }
 {
-    let mut all = Vec::with_capacity(alloc, files)?;
-    for _ in 0..files {
-        all.push(Seq::from_vec(vec![in alloc; None; keys]?))?;
+    let mut all = Vec::with_capacity(alloc, keys)?;
+    for _ in 0..keys {
+        all.push(Seq::from_vec(vec![in alloc; None; files]?))?;
     }
     Ok(all)
 }

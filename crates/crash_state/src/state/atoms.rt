@@ -105,9 +105,9 @@ impl State {
         let (Some(file), Some(key)) = (file, key) else {
             return false;
         };
-        match self.attrs.get(file as usize) {
+        match self.attrs.get(key as usize) {
             None => false,
-            Some(values) => values.as_slice().get(key as usize) == Some(&Some(value)),
+            Some(values) => values.as_slice().get(file as usize) == Some(&Some(value)),
         }
     }
 

@@ -14,6 +14,7 @@ impl State {
         ensures after { self.new ≡ after_option self.old (slice_get events.now.events (event - 1)) }
         ensures fits { Fits self.new events.now }
     {
+        events.keeps_rules();
         let event = &events.events()[event as usize - 1];
         self.take_effect(event);
     }
@@ -80,12 +81,12 @@ impl State {
 
     /// Gives the file's key a value.
     fn set_value(&mut self, file: Option<u32>, key: u32, value: u32)
-        requires there { IfSome file (λ f. f < length self.old.attrs) }
-        requires key { All (λ values. key < length values) self.old.attrs }
-        ensures { self.new ≡ record self.old { attrs = at_place file (at_place (Some key) (λ _. Some value)) self.old.attrs } }
+        requires there { IfSome file (λ f. All (λ values. f < length values) self.old.attrs) }
+        requires key { key < length self.old.attrs }
+        ensures { self.new ≡ record self.old { attrs = at_place (Some key) (at_place file (λ _. Some value)) self.old.attrs } }
     {
         if let Some(file) = file {
-            self.attrs[file as usize].set(key as usize, Some(value));
+            self.attrs[key as usize].set(file as usize, Some(value));
         }
     }
 

@@ -16,6 +16,7 @@ impl State {
         ensures start { self.new ≡ start_state events.now }
         ensures fits { Fits self.new events.now }
     {
+        events.keeps_rules();
         let start = events.start();
         self.slots.copy_from_slice(start.slots());
         set_sizes(self.sizes.as_mut_slice(), start.contents());
@@ -23,7 +24,7 @@ impl State {
         set_values(
             self.attrs.as_mut_slice(),
             start.attrs(),
-            events.keys().len(),
+            start.contents().len(),
         );
         self.seen.fill(false);
     }
@@ -51,25 +52,25 @@ fn set_bytes(files: &mut [FileBytes], contents: &[Text])
     }
 }
 
-/// Makes each file's values of the keys those that the setup gave.
-fn set_values(files: &mut [Seq<Option<u32>>], attrs: &[AttrValue], keys: usize)
-    requires few_files { length files.old ≤ 32 }
-    requires few_keys { keys ≤ 16 }
-    requires keys { All (λ values. length values ≡ keys) files.old }
-    ensures { files.new ≡ map (λ file. map (value_set attrs.now file) (range_with_len 0 keys)) (range_with_len 0 (length files.old)) }
+/// Makes each key's values those that the setup gave the files.
+fn set_values(keys: &mut [Seq<Option<u32>>], attrs: &[AttrValue], files: usize)
+    requires few_keys { length keys.old ≤ 16 }
+    requires few_files { files ≤ 32 }
+    requires files { All (λ values. length values ≡ files) keys.old }
+    ensures { keys.new ≡ map (λ key. map (λ file. value_set attrs.now file key) (range_with_len 0 files)) (range_with_len 0 (length keys.old)) }
 {
-    for file in 0..files.len() {
-        set_values_of(&mut files[file], attrs, file as u32);
+    for key in 0..keys.len() {
+        set_values_of(&mut keys[key], attrs, key as u32);
     }
 }
 
-/// Makes the values of the file those that the setup gave.
-fn set_values_of(values: &mut Seq<Option<u32>>, attrs: &[AttrValue], file: u32)
-    requires { length values.old ≤ 16 }
-    ensures { values.new ≡ map (value_set attrs.now file) (range_with_len 0 (length values.old)) }
+/// Makes the values of the key those that the setup gave the files.
+fn set_values_of(values: &mut Seq<Option<u32>>, attrs: &[AttrValue], key: u32)
+    requires { length values.old ≤ 32 }
+    ensures { values.new ≡ map (λ file. value_set attrs.now file key) (range_with_len 0 (length values.old)) }
 {
-    for key in 0..values.len() {
-        values.set(key, starting_value(attrs, file, key as u32));
+    for file in 0..values.len() {
+        values.set(file, starting_value(attrs, file as u32, key));
     }
 }
 

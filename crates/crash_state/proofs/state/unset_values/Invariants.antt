@@ -4,5 +4,5 @@ use Rattle.crash_state.proofs.state.unset_values.Given as goal
 abbrev pub invariant-loop : goal.invariant-loop
 invariant-loop l = record {
   len : vec_len l.all ≡ l.counter;
-  places : All (λ values. length values ≡ l.keys) l.all.items;
+  places : All (λ values. length values ≡ l.files) l.all.items;
 }

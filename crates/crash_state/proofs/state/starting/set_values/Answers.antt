@@ -6,19 +6,19 @@ use Rattle.std.proofs.lemmas.List.FromFn.{map-range_with_len_more, length-map-ra
 use Rattle.fer_events.specs.States.{value_set}
 use Rattle.crash_state.proofs.state.starting.set_values.Goals as goal
 
-pub loop-file-preserved : goal.loop-file-preserved
-loop-file-preserved c =
+pub loop-key-preserved : goal.loop-key-preserved
+loop-key-preserved c =
     let attrs = c.args.attrs.now in
-    let file = c.loop-file.file in
-    let values : ℕ → List (Option ℕ) = λ f. map (value_set attrs f) (range_with_len 0 c.args.keys) in
-    let here : file < length c.loop-file.files = omega arith in
-    let len = All-get_or (λ (vs : List (Option ℕ)). length vs ≡ c.args.keys) c.loop-file.files file c.index-files-file.result here c.loop-file.invariant.places in
-    let made = c.set_values_of.ensures ∙ ap (λ (n : ℕ). map (value_set attrs file) (range_with_len 0 n)) len in
+    let key = c.loop-key.key in
+    let values : ℕ → List (Option ℕ) = λ k. map (λ file. value_set attrs file k) (range_with_len 0 c.args.files) in
+    let here : key < length c.loop-key.keys = omega arith in
+    let len = All-get_or (λ (vs : List (Option ℕ)). length vs ≡ c.args.files) c.loop-key.keys key c.index-keys-key.result here c.loop-key.invariant.places in
+    let made = c.set_values_of.ensures ∙ ap (λ (n : ℕ). map (λ file. value_set attrs file key) (range_with_len 0 n)) len in
     record {
-      places = All-set (λ vs. length vs ≡ c.args.keys) c.loop-file.files file c.set_values_of.new.values (ap length made ∙ length-map-range_with_len (value_set attrs file) 0 c.args.keys) c.loop-file.invariant.places;
+      places = All-set (λ vs. length vs ≡ c.args.files) c.loop-key.keys key c.set_values_of.new.values (ap length made ∙ length-map-range_with_len (λ file. value_set attrs file key) 0 c.args.files) c.loop-key.invariant.places;
       done =
-          take_more_set c.loop-file.files file c.set_values_of.new.values here
-          ∙ ap (λ (vs : List (List (Option ℕ))). vs ++ c.set_values_of.new.values ∷ []) c.loop-file.invariant.done
-          ∙ ap (λ (vs : List (Option ℕ)). map values (range_with_len 0 file) ++ vs ∷ []) made
-          ∙ sym (map-range_with_len_more values 0 file file (zero-add file));
+          take_more_set c.loop-key.keys key c.set_values_of.new.values here
+          ∙ ap (λ (vs : List (List (Option ℕ))). vs ++ c.set_values_of.new.values ∷ []) c.loop-key.invariant.done
+          ∙ ap (λ (vs : List (Option ℕ)). map values (range_with_len 0 key) ++ vs ∷ []) made
+          ∙ sym (map-range_with_len_more values 0 key key (zero-add key));
     }

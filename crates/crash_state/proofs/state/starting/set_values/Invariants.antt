@@ -3,9 +3,9 @@ use Rattle.std.specs.List.{range_with_len}
 use Rattle.fer_events.specs.States.{value_set}
 use Rattle.crash_state.proofs.state.starting.set_values.Given as goal
 
--- the files so far have the values that the setup gave, and every file has a place for each key
-abbrev pub invariant-loop-file : goal.invariant-loop-file
-invariant-loop-file l = record {
-  places : All (λ values. length values ≡ l.keys) l.files;
-  done : take l.file l.files ≡ map (λ file. map (value_set l.attrs file) (range_with_len 0 l.keys)) (range_with_len 0 l.file);
+-- the keys so far have the values that the setup gave, and every key has a place for each file
+abbrev pub invariant-loop-key : goal.invariant-loop-key
+invariant-loop-key l = record {
+  places : All (λ values. length values ≡ l.files) l.keys;
+  done : take l.key l.keys ≡ map (λ key. map (λ file. value_set l.attrs file key) (range_with_len 0 l.files)) (range_with_len 0 l.key);
 }

@@ -5,16 +5,16 @@ use Rattle.std.proofs.lemmas.List.FromFn.{map-range_with_len_more}
 use Rattle.fer_events.specs.States.{value_set}
 use Rattle.crash_state.proofs.state.starting.set_values_of.Goals as goal
 
-pub loop-key-preserved : goal.loop-key-preserved
-loop-key-preserved c =
-    let value = value_set c.args.attrs.now c.args.file in
-    let here : c.loop-key.key < length c.loop-key.values = omega arith in
+pub loop-file-preserved : goal.loop-file-preserved
+loop-file-preserved c =
+    let value : ℕ → Option ℕ = λ f. value_set c.args.attrs.now f c.args.key in
+    let here : c.loop-file.file < length c.loop-file.values = omega arith in
     record {
-      places = ap length c.set.ensures ∙ length-set c.loop-key.values c.loop-key.key c.starting_value.result ∙ c.loop-key.invariant.places;
+      places = ap length c.set.ensures ∙ length-set c.loop-file.values c.loop-file.file c.starting_value.result ∙ c.loop-file.invariant.places;
       done =
-          ap (take (c.loop-key.key + 1)) c.set.ensures
-          ∙ take_more_set c.loop-key.values c.loop-key.key c.starting_value.result here
-          ∙ ap (λ (vs : List (Option ℕ)). vs ++ c.starting_value.result ∷ []) c.loop-key.invariant.done
-          ∙ ap (λ (v : Option ℕ). map value (range_with_len 0 c.loop-key.key) ++ v ∷ []) c.starting_value.ensures
-          ∙ sym (map-range_with_len_more value 0 c.loop-key.key c.loop-key.key (zero-add c.loop-key.key));
+          ap (take (c.loop-file.file + 1)) c.set.ensures
+          ∙ take_more_set c.loop-file.values c.loop-file.file c.starting_value.result here
+          ∙ ap (λ (vs : List (Option ℕ)). vs ++ c.starting_value.result ∷ []) c.loop-file.invariant.done
+          ∙ ap (λ (v : Option ℕ). map value (range_with_len 0 c.loop-file.file) ++ v ∷ []) c.starting_value.ensures
+          ∙ sym (map-range_with_len_more value 0 c.loop-file.file c.loop-file.file (zero-add c.loop-file.file));
     }
