@@ -4,20 +4,23 @@ use Rattle.std.specs.Option.{option_or}
 use Rattle.std.specs.Prelude.{option_and_then, unwrap_or}
 use Rattle.std.proofs.lemmas.Bool.{cases_Bool}
 use Rattle.std.proofs.lemmas.Bool.Decides.{nat_tests}
-use Rattle.std.proofs.lemmas.List.{length-set, length-replicate, length-drop}
-use Rattle.std.proofs.lemmas.List.Elements.{All-nil, All-set, All-push, All-weaker}
+use Rattle.std.proofs.lemmas.List.{length-replicate, length-drop}
+use Rattle.std.proofs.lemmas.List.Elements.{All-nil, All-push, All-weaker}
 use Rattle.std.proofs.lemmas.Option.{slice_get_cases}
 use Rattle.litmus_syntax.specs.declared.call.Call.{Call}
-use Rattle.litmus_syntax.specs.declared.call.Call.TheVariants.{Mkdir, Create, Write, Append, Truncate, Link, Unlink, Rename, Attr, Fsync, FsyncDir, Sync, Mark}
+use Rattle.litmus_syntax.specs.declared.call.Call.TheVariants.{Mkdir, Create, Write, Append, Truncate, Link, Unlink, Rename, Attr, Fsync, FsyncDir, Sync, Mark, Begin, Commit}
 use Rattle.fer_events.specs.declared.tables.SlotName.{SlotName}
+use Rattle.fer_events.specs.States.{at_place}
 use Rattle.fer_events.specs.Truth.{item_at, text_number}
+use Rattle.fer_events.proofs.AtPlace.{length-at_place, All-at_place}
 use Rattle.call_events.specs.declared.files.Files.{Files}
 use Rattle.call_events.specs.declared.call_kind.CallKind.{CallKind}
 use Rattle.call_events.specs.Running.{after_setup_call}
 use Rattle.call_events.specs.Found.{no_files, is_dir, entry_of, entry_number, slot_of, file_of, content_of, size_of}
-use Rattle.call_events.specs.Refusals.{kind_if, refusal, no_parent, taken, files_full, names_full}
-use Rattle.call_events.specs.Changes.{noted, with_entry, with_slot, with_new_file, with_names, set_at, resized, overwritten, with_content, with_file, with_attr, are_one, changed, files_after}
-use Rattle.call_events.specs.Small.{IsSmall, HasRoom}
+use Rattle.call_events.specs.Refusals.{kind_if, first_of, refusal, no_file, no_parent, taken, taken_by_dir, too_long, dirs_full, files_full, names_full, keys_full}
+use Rattle.call_events.specs.declared.call_kind.CallKind.TheVariants.{NoSuchFile, NameTaken, FileTooLong, TooMany}
+use Rattle.call_events.specs.Changes.{noted, with_entry, with_slot, with_new_file, with_names, resized, overwritten, with_file, with_attr, are_one, changed, files_after}
+use Rattle.call_events.specs.Small.{IsSmall, CanTake}
 
 pub or_second : (a b : Bool) → (a || b) ≡ false → b ≡ false
 or_second true b h = cc
@@ -51,13 +54,46 @@ and_first : (a b : Bool) → (a && b) ≡ false → a ≡ true → b ≡ false
 and_first true b h e = h
 and_first false b h e = cc
 
-pub length-set_at : {X : Type 0} (o : Option ℕ) (x : X) (xs : List X) → length (set_at o x xs) ≡ length xs
-length-set_at None x xs = refl
-length-set_at (Some k) x xs = length-set xs k x
+-- where a row of causes gives none, none of them applies
+pub two_none : (a b : Option CallKind) → first_of (a ∷ b ∷ []) ≡ None → (a ≡ None) × (b ≡ None)
+two_none None b h = (refl, first_none b None h)
+two_none (Some k) b h = cc
 
-All-set_at : {X : Type 0} (P : X → Type 0) (o : Option ℕ) (x : X) (xs : List X) → P x → All P xs → All P (set_at o x xs)
-All-set_at P None x xs h all = all
-All-set_at P (Some k) x xs h all = All-set P xs k x h all
+pub three_none : (a b c : Option CallKind) → first_of (a ∷ b ∷ c ∷ []) ≡ None → (a ≡ None) × (b ≡ None) × (c ≡ None)
+three_none None b c h = let rest = two_none b c h in (refl, rest.0, rest.1)
+three_none (Some k) b c h = cc
+
+pub four_none : (a b c d : Option CallKind) → first_of (a ∷ b ∷ c ∷ d ∷ []) ≡ None → (a ≡ None) × (b ≡ None) × (c ≡ None) × (d ≡ None)
+four_none None b c d h = let rest = three_none b c d h in (refl, rest.0, rest.1, rest.2)
+four_none (Some k) b c d h = cc
+
+-- the rows of the calls
+pub create_none : (s : Files) (path : List (List ℕ)) → refusal s (Create path) ≡ None → (no_parent s path ≡ None) × (taken s path ≡ None) × (files_full s ≡ None) × (names_full s path ≡ None)
+create_none s path accepted = four_none (no_parent s path) (taken s path) (files_full s) (names_full s path) accepted
+
+pub mkdir_none : (s : Files) (path : List (List ℕ)) → refusal s (Mkdir path) ≡ None → (no_parent s path ≡ None) × (taken s path ≡ None) × (dirs_full s ≡ None)
+mkdir_none s path accepted = three_none (no_parent s path) (taken s path) (dirs_full s) accepted
+
+pub link_none : (s : Files) (from to : List (List ℕ)) → refusal s (Link from to) ≡ None → (no_file s from ≡ None) × (no_parent s to ≡ None) × (taken s to ≡ None) × (names_full s to ≡ None)
+link_none s from to accepted = four_none (no_file s from) (no_parent s to) (taken s to) (names_full s to) accepted
+
+pub rename_none : (s : Files) (from to : List (List ℕ)) → refusal s (Rename from to) ≡ None → (no_file s from ≡ None) × (no_parent s to ≡ None) × (taken_by_dir s to ≡ None) × (names_full s to ≡ None)
+rename_none s from to accepted = four_none (no_file s from) (no_parent s to) (taken_by_dir s to) (names_full s to) accepted
+
+pub write_none : (s : Files) (path : List (List ℕ)) (end : ℕ) → first_of (no_file s path ∷ too_long end ∷ []) ≡ None → (no_file s path ≡ None) × (end ≤ 65536)
+write_none s path end accepted =
+    let row = two_none (no_file s path) (too_long end) accepted in
+    (row.0, within 65536 end (test_fails (nat_lt 65536 end) FileTooLong row.1))
+
+pub attr_none : (s : Files) (path : List (List ℕ)) (key : List ℕ) (value : ℕ) → refusal s (Attr path key value) ≡ None → (no_file s path ≡ None) × (keys_full s key ≡ None)
+attr_none s path key value accepted = two_none (no_file s path) (keys_full s key) accepted
+
+pub file_present : (s : Files) (path : List (List ℕ)) → no_file s path ≡ None → is_some (file_of s path) ≡ true
+file_present s path h = is_there (file_of s path) (test_fails (is_none (file_of s path)) NoSuchFile h)
+  where
+    is_there : (o : Option ℕ) → is_none o ≡ false → is_some o ≡ true
+    is_there None h = cc
+    is_there (Some f) h = refl
 
 -- a name more
 entry_noted : (s : Files) (e : SlotName) → IsSmall s → length s.slots < 64
@@ -123,15 +159,15 @@ length-noted_text table text = elim (cases_Bool (is_some (text_number table text
 pub names_small : (s : Files) (call : Call) → IsSmall s → refusal s call ≡ None → length s.words < 128 → IsSmall (with_names s call)
 names_small s (Mkdir path) small accepted words = small
 names_small s (Create path) small accepted words =
-    let first : option_or (option_or (no_parent s path) (taken s path)) (files_full s) ≡ None = first_none _ _ accepted in
-    file_small (with_slot s path) (slot_small s path small (second_none _ _ accepted))
-    (let same = ap length (entry_contents s (entry_of s path)) in omega (arith, same, below 32 (length s.contents) (test_fails _ _ (second_none _ _ first))))
+    let row = create_none s path accepted in
+    file_small (with_slot s path) (slot_small s path small row.3)
+    (let same = ap length (entry_contents s (entry_of s path)) in omega (arith, same, below 32 (length s.contents) (test_fails (nat_le 32 (length s.contents)) TooMany row.2)))
 names_small s (Write path at text) small accepted words = small
 names_small s (Append path text) small accepted words = small
 names_small s (Truncate path size) small accepted words = small
-names_small s (Link from to) small accepted words = slot_small s to small (second_none _ _ accepted)
+names_small s (Link from to) small accepted words = slot_small s to small (link_none s from to accepted).3
 names_small s (Unlink path) small accepted words = small
-names_small s (Rename from to) small accepted words = slot_small s to small (second_none _ _ accepted)
+names_small s (Rename from to) small accepted words = slot_small s to small (rename_none s from to accepted).3
 names_small s (Attr path key value) small accepted words = record {
   dirs = small.dirs;
   slots = small.slots;
@@ -139,12 +175,14 @@ names_small s (Attr path key value) small accepted words = record {
   files = small.files;
   files_there = small.files_there;
   contents = small.contents;
-  keys = length-noted s.keys key 16 small.keys (test_fails _ _ (second_none _ _ accepted));
+  keys = length-noted s.keys key 16 small.keys (test_fails (is_none (text_number s.keys key) && nat_le 16 (length s.keys)) TooMany (attr_none s path key value accepted).1);
   words = small.words;
 }
 names_small s (Fsync path) small accepted words = small
 names_small s (FsyncDir path) small accepted words = small
 names_small s Sync small accepted words = small
+names_small s Begin small accepted words = small
+names_small s Commit small accepted words = small
 names_small s (Mark word) small accepted words = record {
   dirs = small.dirs;
   slots = small.slots;
@@ -157,14 +195,14 @@ names_small s (Mark word) small accepted words = record {
 }
 
 -- a call that isn't refused has room
-pub names_room : (s : Files) (call : Call) → refusal s call ≡ None → HasRoom (with_names s call) call
+pub names_room : (s : Files) (call : Call) → refusal s call ≡ None → CanTake (with_names s call) call
 names_room s (Mkdir path) accepted =
-    let front = first_none _ _ accepted in
-    (below 16 (length s.dirs) (test_fails _ _ (second_none _ _ accepted)), or_second (is_some (file_of s path)) (is_dir s path) (test_fails _ _ (second_none _ _ front)))
+    let row = mkdir_none s path accepted in
+    (below 16 (length s.dirs) (test_fails (nat_le 16 (length s.dirs)) TooMany row.2), or_second (is_some (file_of s path)) (is_dir s path) (test_fails (is_some (file_of s path) || is_dir s path) NameTaken row.1))
 names_room s (Create path) accepted = omega (arith, length-append {A = List ℕ} (with_slot s path).contents ([] ∷ []))
-names_room s (Write path at text) accepted = within 65536 (at + length text) (test_fails _ _ (second_none _ _ accepted))
-names_room s (Append path text) accepted = within 65536 (size_of s (file_of s path) + length text) (test_fails _ _ (second_none _ _ accepted))
-names_room s (Truncate path size) accepted = within 65536 size (test_fails _ _ (second_none _ _ accepted))
+names_room s (Write path at text) accepted = (write_none s path (at + length text) accepted).1
+names_room s (Append path text) accepted = (write_none s path (size_of s (file_of s path) + length text) accepted).1
+names_room s (Truncate path size) accepted = (write_none s path size accepted).1
 names_room s (Link from to) accepted = tt
 names_room s (Unlink path) accepted = tt
 names_room s (Rename from to) accepted = tt
@@ -172,9 +210,11 @@ names_room s (Attr path key value) accepted = tt
 names_room s (Fsync path) accepted = tt
 names_room s (FsyncDir path) accepted = tt
 names_room s Sync accepted = tt
+names_room s Begin accepted = tt
+names_room s Commit accepted = tt
 names_room s (Mark word) accepted = tt
 
-length-resized : (size : ℕ) (content : List ℕ) → length (resized size content) ≡ size
+pub length-resized : (size : ℕ) (content : List ℕ) → length (resized size content) ≡ size
 length-resized size content =
     omega (arith, length-append (take size content) (replicate (size - length content) 0), length-take size content, length-replicate {A = ℕ} (size - length content) 0)
 
@@ -198,25 +238,28 @@ content_fits s (Some f) small = elim ((slice_get_cases s.contents f).1) [
   | inr past ↦ let P : Option (List ℕ) → Type 0 = λ o. length (unwrap_or o []) ≤ 65536 in subst P (sym past.1) (omega arith)
 ]
 
-content_small : (s : Files) (file : Option ℕ) (content : List ℕ) → IsSmall s → length content ≤ 65536 → IsSmall (with_content s file content)
-content_small s file content small fits = record {
-  dirs = small.dirs;
-  slots = small.slots;
-  held = small.held;
-  files = omega (arith, length-set_at file content s.contents);
-  files_there = let P : ℕ → Type 0 = λ n. All (λ held. IfSome held (λ f. f < n)) s.held in subst P (sym (length-set_at file content s.contents)) small.files_there;
-  contents = All-set_at (λ content. length content ≤ 65536) file content s.contents fits small.contents;
-  keys = small.keys;
-  words = small.words;
-}
+content_small : (s : Files) (file : Option ℕ) (change : List ℕ → List ℕ) → IsSmall s → ((content : List ℕ) → length content ≤ 65536 → length (change content) ≤ 65536)
+    → IsSmall (record s { contents = at_place file change s.contents })
+content_small s file change small fits =
+    let same : length (at_place file change s.contents) ≡ length s.contents = length-at_place file change s.contents in
+    record {
+      dirs = small.dirs;
+      slots = small.slots;
+      held = small.held;
+      files = omega (arith, same);
+      files_there = let P : ℕ → Type 0 = λ n. All (λ held. IfSome held (λ f. f < n)) s.held in subst P (sym same) small.files_there;
+      contents = All-at_place (λ content. length content ≤ 65536) file change s.contents fits small.contents;
+      keys = small.keys;
+      words = small.words;
+    }
 
 held_small : (s : Files) (path : List (List ℕ)) (file : Option ℕ) → IsSmall s → IfSome file (λ f. f < length s.contents) → IsSmall (with_file s path file)
 held_small s path file small there = record {
   dirs = small.dirs;
   slots = small.slots;
-  held = omega (arith, length-set_at {X = Option ℕ} (slot_of s path) file s.held, small.held);
+  held = length-at_place (slot_of s path) (λ _. file) s.held ∙ small.held;
   files = small.files;
-  files_there = All-set_at (λ held. IfSome held (λ f. f < length s.contents)) (slot_of s path) file s.held there small.files_there;
+  files_there = All-at_place (λ held. IfSome held (λ f. f < length s.contents)) (slot_of s path) (λ _. file) s.held (λ held h. there) small.files_there;
   contents = small.contents;
   keys = small.keys;
   words = small.words;
@@ -230,6 +273,11 @@ file_there s (Some k) small = elim ((slice_get_cases s.held k).1) [
       subst P (sym there.2) (let Q : Option ℕ → Type 0 = λ h. IfSome h (λ f. f < length s.contents) in subst Q there.3 (small.files_there k there.0 there.1))
   | inr past ↦ let P : Option (Option ℕ) → Type 0 = λ o. IfSome (option_and_then (λ held. held) o) (λ f. f < length s.contents) in subst P (sym past.1) tt
 ]
+
+-- a name that comes to hold a path's file keeps the limits
+pub link_small : (s t : Files) (from to : List (List ℕ)) (file : Option ℕ) → file ≡ file_of s from → t ≡ with_file s to file → IsSmall s → IsSmall t
+link_small s t from to file is_file is small =
+    subst IsSmall (sym (is ∙ ap (with_file s to) is_file)) (held_small s to (file_of s from) small (file_there s (slot_of s from) small))
 
 attr_small : (s : Files) (file key : Option ℕ) (value : ℕ) → IsSmall s → IsSmall (with_attr s file key value)
 attr_small s None key value small = small
@@ -252,7 +300,7 @@ rename_small s from to small = elim (cases_Bool (are_one s from to)) [
 ]
 
 -- a call with room keeps the limits
-pub changed_small : (s : Files) (call : Call) → IsSmall s → HasRoom s call → IsSmall (changed s call)
+pub changed_small : (s : Files) (call : Call) → IsSmall s → CanTake s call → IsSmall (changed s call)
 changed_small s (Mkdir path) small room = record {
   dirs = omega (arith, length-append s.dirs (path ∷ []));
   slots = small.slots;
@@ -264,9 +312,11 @@ changed_small s (Mkdir path) small room = record {
   words = small.words;
 }
 changed_small s (Create path) small room = held_small s path (Some (length s.contents - 1)) small (omega arith)
-changed_small s (Write path at text) small room = content_small s (file_of s path) _ small (length-overwritten at text (content_of s (file_of s path)) room (content_fits s (file_of s path) small))
-changed_small s (Append path text) small room = content_small s (file_of s path) _ small (omega (arith, length-append (content_of s (file_of s path)) text))
-changed_small s (Truncate path size) small room = content_small s (file_of s path) _ small (omega (arith, length-resized size (content_of s (file_of s path))))
+changed_small s (Write path at text) small room = content_small s (file_of s path) (overwritten at text) small (λ content fits. length-overwritten at text content room fits)
+changed_small s (Append path text) small room =
+    let size : ℕ = size_of s (file_of s path) in
+    content_small s (file_of s path) (overwritten size text) small (λ content fits. length-overwritten size text content room fits)
+changed_small s (Truncate path size) small room = content_small s (file_of s path) (resized size) small (λ content fits. omega (arith, length-resized size content, room))
 changed_small s (Link from to) small room = held_small s to (file_of s from) small (file_there s (slot_of s from) small)
 changed_small s (Unlink path) small room = held_small s path None small tt
 changed_small s (Rename from to) small room = rename_small s from to small
@@ -274,6 +324,8 @@ changed_small s (Attr path key value) small room = attr_small s (file_of s path)
 changed_small s (Fsync path) small room = small
 changed_small s (FsyncDir path) small room = small
 changed_small s Sync small room = small
+changed_small s Begin small room = small
+changed_small s Commit small room = small
 changed_small s (Mark word) small room = small
 
 entry_words : (s : Files) (o : Option SlotName) → (with_entry s o).words ≡ s.words
@@ -302,13 +354,15 @@ setup_words s (Attr path key value) = attr_words (with_names s (Attr path key va
 setup_words s (Fsync path) = refl
 setup_words s (FsyncDir path) = refl
 setup_words s Sync = refl
+setup_words s Begin = refl
+setup_words s Commit = refl
 setup_words s (Mark word) = refl
 
 pub names_small_at : (s t : Files) (call : Call) → t ≡ with_names s call → IsSmall s → refusal s call ≡ None → s.words ≡ [] → IsSmall t
 names_small_at s t call is small accepted unmarked = subst IsSmall (sym is) (names_small s call small accepted (let none = ap length unmarked in omega (arith, none)))
 
-pub names_room_at : (s t : Files) (call : Call) → t ≡ with_names s call → refusal s call ≡ None → HasRoom t call
-names_room_at s t call is accepted = let P : Files → Type 0 = λ u. HasRoom u call in subst P (sym is) (names_room s call accepted)
+pub names_room_at : (s t : Files) (call : Call) → t ≡ with_names s call → refusal s call ≡ None → CanTake t call
+names_room_at s t call is accepted = let P : Files → Type 0 = λ u. CanTake u call in subst P (sym is) (names_room s call accepted)
 
 -- a call that isn't refused keeps the limits
 pub after_small : (s : Files) (call : Call) → IsSmall s → refusal s call ≡ None → length s.words < 128 → IsSmall (files_after s call)

@@ -1,13 +1,12 @@
 -- The events of a call that isn't refused fit the files, the names that it uses having their numbers.
-use Rattle.std.proofs.Common.{◌≡◌, ℕ, ◌-◌, ◌<◌, Bool, true, false, not, List, [], ◌∷◌, ◌++◌, length, get_or, bytes_eq, Option, Some, None, is_some, is_none, IfSome, All, refl, sym, ◌∙◌, ap, inl, inr, arith, length-append}
-use Rattle.std.specs.Option.{option_or}
+use Rattle.std.proofs.Common.{◌≡◌, ℕ, ◌-◌, ◌<◌, Bool, true, false, not, ◌+◌, ◌||◌, List, [], ◌∷◌, ◌++◌, length, get_or, bytes_eq, Option, Some, None, is_some, IfSome, All, refl, sym, ◌∙◌, ap, inl, inr, arith, length-append}
 use Rattle.std.specs.Prelude.{option_and_then, unwrap_or}
 use Rattle.std.proofs.Math.Seq.{get_or-append_seam}
 use Rattle.std.proofs.lemmas.Bool.{cases_Bool, true≢false}
 use Rattle.std.proofs.lemmas.List.Elements.{All-nil, All-cons}
 use Rattle.std.proofs.lemmas.List.Quantifiers.{position-Some}
 use Rattle.litmus_syntax.specs.declared.call.Call.{Call}
-use Rattle.litmus_syntax.specs.declared.call.Call.TheVariants.{Mkdir, Create, Write, Append, Truncate, Link, Unlink, Rename, Attr, Fsync, FsyncDir, Sync, Mark}
+use Rattle.litmus_syntax.specs.declared.call.Call.TheVariants.{Mkdir, Create, Write, Append, Truncate, Link, Unlink, Rename, Attr, Fsync, FsyncDir, Sync, Mark, Begin, Commit}
 use Rattle.fer_events.specs.declared.event.Event.{Event}
 use Rattle.fer_events.specs.declared.event.Kind.{Kind}
 use Rattle.fer_events.specs.declared.event.Kind.TheVariants as kind
@@ -16,24 +15,22 @@ use Rattle.fer_events.specs.declared.event.Effect.TheVariants.{Cut, SetAttr, Put
 use Rattle.fer_events.specs.Tables.{Trace, Carried, carried_by, HasEffect, IsEventOf}
 use Rattle.fer_events.specs.Truth.{item_at, text_number}
 use Rattle.call_events.specs.declared.files.Files.{Files}
+use Rattle.call_events.specs.declared.making.Sizes.{Sizes}
 use Rattle.call_events.specs.declared.making.Stamp.{Stamp}
 use Rattle.call_events.specs.Found.{dir_number, is_dir, entry_of, slot_of, file_of, size_of}
-use Rattle.call_events.specs.Refusals.{refusal, no_file, no_parent, taken, taken_by_dir, files_full}
+use Rattle.call_events.specs.Refusals.{refusal, no_parent}
+use Rattle.call_events.specs.declared.call_kind.CallKind.TheVariants.{NameTaken}
 use Rattle.call_events.specs.Changes.{noted, with_slot, with_names, are_one}
 use Rattle.call_events.specs.CallEvents.{file_event, name_event, dir_event, events_of}
 use Rattle.call_events.specs.Small.{IsSmall}
-use Rattle.call_events.specs.Runs.{IsWhole, now}
-use Rattle.call_events.proofs.Keeping.{first_none, second_none, test_fails, names_small, names_room, file_there}
+use Rattle.call_events.specs.Runs.{IsConsistent, now}
+use Rattle.call_events.proofs.Keeping.{create_none, link_none, rename_none, write_none, attr_none, file_present, test_fails, names_small, names_room, file_there}
 use Rattle.call_events.proofs.Whole.{bytes_eq-refl, passes_within, place_is, dir_within, right_fails}
 use Rattle.call_events.proofs.NameFits.{name_fits, slotted, is_name, file_kept}
-use Rattle.call_events.proofs.CallFits.{pieces_fit}
+use Rattle.call_events.proofs.CallFits.{text_fits}
 
 one : (t : Trace) (e : Event) → IsEventOf t e → All (IsEventOf t) (e ∷ [])
 one t e h = All-cons (IsEventOf t) e [] h (All-nil (IsEventOf t))
-
-is_there : {X : Type 0} (o : Option X) → is_none o ≡ false → is_some o ≡ true
-is_there None h = absurd (true≢false h)
-is_there (Some x) h = refl
 
 file_fits : (n : Files) (stamp : Stamp) (k : Kind) (effect : Effect) (file : Option ℕ) → is_some file ≡ true → IfSome file (λ f. f < length n.contents)
     → ◌≡◌ {A = Carried} (record { file = true; block = false; dir = false; slot = false }) (carried_by k) → HasEffect (now n) k effect → IsEventOf (now n) (file_event stamp k file effect)
@@ -62,7 +59,7 @@ noted_found table text = elim (cases_Bool (is_some (text_number table text))) [
 ]
 
 -- a new name's path
-new_name : (s : Files) (path : List (List ℕ)) → IsWhole s → no_parent s path ≡ None → is_dir s path ≡ false → is_some (slot_of (with_slot s path) path) ≡ true
+new_name : (s : Files) (path : List (List ℕ)) → IsConsistent s → no_parent s path ≡ None → is_dir s path ≡ false → is_some (slot_of (with_slot s path) path) ≡ true
 new_name s path whole parent new = slotted s path (entry_of s path) refl (is_name s path whole.root new (test_fails _ _ parent))
 
 dir_present : (o : Option ℕ) → not (is_some o) ≡ false → is_some o ≡ true
@@ -73,8 +70,8 @@ if_dir : (s : Files) (path : List (List ℕ)) (o : Option ℕ) → dir_number s 
 if_dir s path None h = tt
 if_dir s path (Some d) h = dir_within s path d h
 
-rename_fits : (block : ℕ) (stamp : Stamp) (n : Files) (from to : List (List ℕ)) → IsSmall n → is_some (file_of n from) ≡ true → is_some (slot_of n to) ≡ true → All (IsEventOf (now n)) (events_of block stamp n (Rename from to))
-rename_fits block stamp n from to small present named = elim (cases_Bool (are_one n from to)) [
+rename_fits : (sizes : Sizes) (stamp : Stamp) (n : Files) (from to : List (List ℕ)) → IsSmall n → is_some (file_of n from) ≡ true → is_some (slot_of n to) ≡ true → All (IsEventOf (now n)) (events_of sizes stamp n (Rename from to))
+rename_fits sizes stamp n from to small present named = elim (cases_Bool (are_one n from to)) [
   | inl same ↦ rw same (All-nil (IsEventOf (now n)))
   | inr two ↦ rw two (
       All-cons (IsEventOf (now n)) (name_event n stamp kind.Link (file_of n from) to PutName) (name_event n stamp kind.Unlink (file_of n from) from ClearName ∷ [])
@@ -84,46 +81,43 @@ rename_fits block stamp n from to small present named = elim (cases_Bool (are_on
 ]
 
 -- the events of a call that isn't refused fit
-pub call_fits : (block : ℕ) (stamp : Stamp) (s : Files) (call : Call) → 0 < block → IsSmall s → IsWhole s → length s.words < 128 → refusal s call ≡ None
-    → All (IsEventOf (now (with_names s call))) (events_of block stamp (with_names s call) call)
-call_fits block stamp s (Mkdir path) positive small whole words accepted = All-nil (IsEventOf (now s))
-call_fits block stamp s (Create path) positive small whole words accepted =
+pub call_fits : (sizes : Sizes) (stamp : Stamp) (s : Files) (call : Call) → IsSmall s → IsConsistent s → length s.words < 128 → refusal s call ≡ None
+    → All (IsEventOf (now (with_names s call))) (events_of sizes stamp (with_names s call) call)
+call_fits sizes stamp s (Mkdir path) small whole words accepted = All-nil (IsEventOf (now s))
+call_fits sizes stamp s (Create path) small whole words accepted =
+    let row = create_none s path accepted in
     let n : Files = with_names s (Create path) in
-    let a1 : option_or (option_or (no_parent s path) (taken s path)) (files_full s) ≡ None = first_none _ _ accepted in
-    let a2 : option_or (no_parent s path) (taken s path) ≡ None = first_none _ _ a1 in
     let newest : length n.contents - 1 < length n.contents = omega (arith, length-append {A = List ℕ} (with_slot s path).contents ([] ∷ [])) in
     one (now n) _ (name_fits n stamp kind.Link PutName (Some (length n.contents - 1)) path refl newest
-    (new_name s path whole (first_none _ _ a2) (right_fails (is_some (file_of s path)) (is_dir s path) (test_fails _ _ (second_none _ _ a2)))) refl tt)
-call_fits block stamp s (Write path at text) positive small whole words accepted =
-    pieces_fit s block stamp (file_of s path) (size_of s (file_of s path)) at text positive (is_there (file_of s path) (test_fails _ _ (first_none _ _ accepted))) (file_there s (slot_of s path) small) (names_room s (Write path at text) accepted)
-call_fits block stamp s (Append path text) positive small whole words accepted =
-    pieces_fit s block stamp (file_of s path) (size_of s (file_of s path)) (size_of s (file_of s path)) text positive (is_there (file_of s path) (test_fails _ _ (first_none _ _ accepted))) (file_there s (slot_of s path) small) (names_room s (Append path text) accepted)
-call_fits block stamp s (Truncate path size) positive small whole words accepted =
-    one (now s) _ (file_fits s stamp kind.Trunc (Cut size) (file_of s path) (is_there (file_of s path) (test_fails _ _ (first_none _ _ accepted))) (file_there s (slot_of s path) small) refl (names_room s (Truncate path size) accepted))
-call_fits block stamp s (Link from to) positive small whole words accepted =
+    (new_name s path whole row.0 (right_fails (is_some (file_of s path)) (is_dir s path) (test_fails (is_some (file_of s path) || is_dir s path) NameTaken row.1))) refl tt)
+call_fits sizes stamp s (Write path at text) small whole words accepted =
+    text_fits s sizes stamp (file_of s path) (size_of s (file_of s path)) at text (file_present s path (write_none s path (at + length text) accepted).0) (file_there s (slot_of s path) small) (names_room s (Write path at text) accepted)
+call_fits sizes stamp s (Append path text) small whole words accepted =
+    text_fits s sizes stamp (file_of s path) (size_of s (file_of s path)) (size_of s (file_of s path)) text (file_present s path (write_none s path (size_of s (file_of s path) + length text) accepted).0) (file_there s (slot_of s path) small) (names_room s (Append path text) accepted)
+call_fits sizes stamp s (Truncate path size) small whole words accepted =
+    one (now s) _ (file_fits s stamp kind.Trunc (Cut size) (file_of s path) (file_present s path (write_none s path size accepted).0) (file_there s (slot_of s path) small) refl (names_room s (Truncate path size) accepted))
+call_fits sizes stamp s (Link from to) small whole words accepted =
     let n : Files = with_slot s to in
-    let a1 : option_or (option_or (no_file s from) (no_parent s to)) (taken s to) ≡ None = first_none _ _ accepted in
-    let a2 : option_or (no_file s from) (no_parent s to) ≡ None = first_none _ _ a1 in
+    let row = link_none s from to accepted in
     one (now n) _ (name_fits n stamp kind.Link PutName (file_of n from) to
-    (file_kept s (entry_of s to) from (is_there (file_of s from) (test_fails _ _ (first_none _ _ a2))))
+    (file_kept s (entry_of s to) from (file_present s from row.0))
     (file_there n (slot_of n from) (names_small s (Link from to) small accepted words))
-    (new_name s to whole (second_none _ _ a2) (right_fails (is_some (file_of s to)) (is_dir s to) (test_fails _ _ (second_none _ _ a1)))) refl tt)
-call_fits block stamp s (Unlink path) positive small whole words accepted =
-    let present : is_some (file_of s path) ≡ true = is_there (file_of s path) (test_fails _ _ accepted) in
+    (new_name s to whole row.1 (right_fails (is_some (file_of s to)) (is_dir s to) (test_fails (is_some (file_of s to) || is_dir s to) NameTaken row.2))) refl tt)
+call_fits sizes stamp s (Unlink path) small whole words accepted =
+    let present : is_some (file_of s path) ≡ true = file_present s path accepted in
     one (now s) _ (name_fits s stamp kind.Unlink ClearName (file_of s path) path present (file_there s (slot_of s path) small) (slot_from_file s.held (slot_of s path) present) refl tt)
-call_fits block stamp s (Rename from to) positive small whole words accepted =
+call_fits sizes stamp s (Rename from to) small whole words accepted =
     let n : Files = with_slot s to in
-    let a1 : option_or (option_or (no_file s from) (no_parent s to)) (taken_by_dir s to) ≡ None = first_none _ _ accepted in
-    let a2 : option_or (no_file s from) (no_parent s to) ≡ None = first_none _ _ a1 in
-    rename_fits block stamp n from to (names_small s (Rename from to) small accepted words)
-    (file_kept s (entry_of s to) from (is_there (file_of s from) (test_fails _ _ (first_none _ _ a2))))
-    (new_name s to whole (second_none _ _ a2) (test_fails _ _ (second_none _ _ a1)))
-call_fits block stamp s (Attr path key value) positive small whole words accepted =
+    let row = rename_none s from to accepted in
+    rename_fits sizes stamp n from to (names_small s (Rename from to) small accepted words)
+    (file_kept s (entry_of s to) from (file_present s from row.0))
+    (new_name s to whole row.1 (test_fails (is_dir s to) NameTaken row.2))
+call_fits sizes stamp s (Attr path key value) small whole words accepted =
     let n : Files = with_names s (Attr path key value) in
-    one (now n) _ (file_fits n stamp kind.Attr (SetAttr (unwrap_or (text_number n.keys key) 0) value) (file_of s path) (is_there (file_of s path) (test_fails _ _ (first_none _ _ accepted))) (file_there s (slot_of s path) small) refl (noted_found s.keys key))
-call_fits block stamp s (Fsync path) positive small whole words accepted =
-    one (now s) _ (file_fits s stamp kind.Fsync Nothing (file_of s path) (is_there (file_of s path) (test_fails _ _ accepted)) (file_there s (slot_of s path) small) refl tt)
-call_fits block stamp s (FsyncDir path) positive small whole words accepted =
+    one (now n) _ (file_fits n stamp kind.Attr (SetAttr (unwrap_or (text_number n.keys key) 0) value) (file_of s path) (file_present s path (attr_none s path key value accepted).0) (file_there s (slot_of s path) small) refl (noted_found s.keys key))
+call_fits sizes stamp s (Fsync path) small whole words accepted =
+    one (now s) _ (file_fits s stamp kind.Fsync Nothing (file_of s path) (file_present s path accepted) (file_there s (slot_of s path) small) refl tt)
+call_fits sizes stamp s (FsyncDir path) small whole words accepted =
     let carried : Bool → Carried = λ b. record { file = false; block = false; dir = b; slot = false } in
     one (now s) (dir_event stamp (dir_number s path)) (record {
       carries = ap carried (dir_present (dir_number s path) (test_fails _ _ accepted));
@@ -132,7 +126,9 @@ call_fits block stamp s (FsyncDir path) positive small whole words accepted =
       slot_there = tt;
       effect = tt;
     })
-call_fits block stamp s Sync positive small whole words accepted =
+call_fits sizes stamp s Sync small whole words accepted =
     one (now s) _ (record { carries = refl; file_there = tt; dir_there = tt; slot_there = tt; effect = tt })
-call_fits block stamp s (Mark word) positive small whole words accepted =
+call_fits sizes stamp s (Mark word) small whole words accepted =
     one (now (with_names s (Mark word))) _ (record { carries = refl; file_there = tt; dir_there = tt; slot_there = tt; effect = noted_found s.words word })
+call_fits sizes stamp s Begin small whole words accepted = All-nil (IsEventOf (now s))
+call_fits sizes stamp s Commit small whole words accepted = All-nil (IsEventOf (now s))

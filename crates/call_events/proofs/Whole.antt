@@ -1,7 +1,7 @@
 -- Calls that aren't refused keep files whole: nothing is named twice, and every number names a thing that is there.
 use Rattle.std.proofs.Common.{◌≡◌, ◌≢◌, ℕ, zero, suc, ◌+◌, ◌<◌, ◌≤◌, Bool, true, false, ◌&&◌, ◌||◌, ◌==◌, List, [], ◌∷◌, ◌++◌, length, get_or, bytes_eq, Option, Some, None, is_some, slice_get, ltb, set, IfSome, refl, sym, ◌∙◌, ap, inl, inr, arith, length-append}
 use Rattle.std.specs.List.{AllPairs, position, position_or_len}
-use Rattle.std.specs.Option.{option_or, option_map, option_map_or}
+use Rattle.std.specs.Option.{option_map, option_map_or}
 use Rattle.std.proofs.lemmas.Bool.{cases_eq, cases_Bool, cond-true, cond-false, lt-ltb, true≢false, and_from}
 use Rattle.std.proofs.lemmas.Bool.Decides.{nat_tests}
 use Rattle.std.proofs.lemmas.List.{get_or_append_left, get_or_default, get_or-set_same, get_or-set_other, length-set}
@@ -9,16 +9,19 @@ use Rattle.std.proofs.lemmas.List.Elements.{All-nil, All-push, All-set, All-weak
 use Rattle.std.proofs.lemmas.List.Quantifiers.{all_pairs_push, position-Some}
 use Rattle.std.proofs.lemmas.Option.{slice_get_within, slice_get-get_or}
 use Rattle.litmus_syntax.specs.declared.call.Call.{Call}
-use Rattle.litmus_syntax.specs.declared.call.Call.TheVariants.{Mkdir, Create, Write, Append, Truncate, Link, Unlink, Rename, Attr, Fsync, FsyncDir, Sync, Mark}
+use Rattle.litmus_syntax.specs.declared.call.Call.TheVariants.{Mkdir, Create, Write, Append, Truncate, Link, Unlink, Rename, Attr, Fsync, FsyncDir, Sync, Mark, Begin, Commit}
 use Rattle.fer_events.specs.declared.tables.SlotName.{SlotName}
 use Rattle.fer_events.specs.declared.tables.AttrValue.{AttrValue}
+use Rattle.fer_events.specs.States.{at_place}
 use Rattle.fer_events.specs.Truth.{same_path, text_number}
+use Rattle.fer_events.proofs.AtPlace.{length-at_place}
 use Rattle.call_events.specs.declared.files.Files.{Files}
-use Rattle.call_events.specs.Found.{dir_number, is_dir, entry_of, entry_number, same_entry, slot_of, file_of, named_in, split_last, no_files}
-use Rattle.call_events.specs.Refusals.{refusal, taken, no_parent}
-use Rattle.call_events.specs.Changes.{noted, with_entry, with_slot, with_new_file, with_names, set_at, with_content, with_file, with_value, value_place, with_attr, are_one, changed, files_after}
-use Rattle.call_events.specs.Runs.{IsWhole, Grows}
-use Rattle.call_events.proofs.Keeping.{first_none, second_none, test_fails, length-set_at, file_there, names_small}
+use Rattle.call_events.specs.Found.{dir_number, is_dir, entry_of, entry_number, same_entry, slot_of, file_of, size_of, named_in, split_last, no_files}
+use Rattle.call_events.specs.Refusals.{refusal}
+use Rattle.call_events.specs.declared.call_kind.CallKind.TheVariants.{NameTaken}
+use Rattle.call_events.specs.Changes.{noted, with_entry, with_slot, with_new_file, with_names, resized, overwritten, with_file, with_value, value_place, with_attr, are_one, changed, files_after}
+use Rattle.call_events.specs.Runs.{IsConsistent, Grows}
+use Rattle.call_events.proofs.Keeping.{mkdir_none, test_fails, file_there, names_small}
 use Rattle.call_events.specs.Small.{IsSmall}
 use Rattle.call_events.specs.Running.{after_setup_call}
 
@@ -42,7 +45,8 @@ passes_within p (x ∷ xs) (suc k) d there h = elim (cases_Bool (p x)) [
   | inr e ↦ rw e (omega (arith, passes_within p xs k d (omega arith) h))
 ]
 
-fresh : {X : Type 0} (p : X → Bool) (xs : List X) → is_some (position p xs) ≡ false → (k : ℕ) (d : X) → k < length xs → p (get_or xs k d) ≡ true → ⊥
+-- an item that passes isn't there where none is found
+pub fresh : {X : Type 0} (p : X → Bool) (xs : List X) → is_some (position p xs) ≡ false → (k : ℕ) (d : X) → k < length xs → p (get_or xs k d) ≡ true → ⊥
 fresh p xs none k d there h =
     let found : position p xs ≡ Some (position_or_len p xs) = cond-true (ltb (position_or_len p xs) (length xs)) _ _ (lt-ltb _ _ (passes_within p xs k d there h)) in
     true≢false (sym (ap is_some found) ∙ none)
@@ -97,9 +101,9 @@ grows_on s t u a b = record {
 
 -- what a change keeps
 abbrev pub Keeps : Files → Files → Type 0
-Keeps s t = IsWhole t × Grows s t
+Keeps s t = IsConsistent t × Grows s t
 
-entry_new : (s : Files) (e : SlotName) → IsWhole s → e.dir < length s.dirs → is_some (entry_number s.slots e) ≡ false
+entry_new : (s : Files) (e : SlotName) → IsConsistent s → e.dir < length s.dirs → is_some (entry_number s.slots e) ≡ false
     → Keeps s (record s { slots = s.slots ++ e ∷ []; held = s.held ++ None ∷ [] })
 entry_new s e whole there none = (
   record {
@@ -122,7 +126,7 @@ entry_new s e whole there none = (
   },
 )
 
-entry_whole : (s : Files) (o : Option SlotName) → IsWhole s → ((e : SlotName) → o ≡ Some e → e.dir < length s.dirs) → Keeps s (with_entry s o)
+entry_whole : (s : Files) (o : Option SlotName) → IsConsistent s → ((e : SlotName) → o ≡ Some e → e.dir < length s.dirs) → Keeps s (with_entry s o)
 entry_whole s None whole there = (whole, grows_same s)
 entry_whole s (Some e) whole there = elim (cases_Bool (is_some (entry_number s.slots e))) [
   | inl old ↦ rw old (whole, grows_same s)
@@ -143,10 +147,10 @@ pub entry_within : (s : Files) (split : Option (List (List ℕ) × List ℕ)) (e
 entry_within s None e h = cc
 entry_within s (Some (parent, name)) e h = named_within s (dir_number s parent) name e (dir_within s parent) h
 
-pub slot_whole : (s : Files) (path : List (List ℕ)) → IsWhole s → Keeps s (with_slot s path)
+pub slot_whole : (s : Files) (path : List (List ℕ)) → IsConsistent s → Keeps s (with_slot s path)
 slot_whole s path whole = entry_whole s (entry_of s path) whole (entry_within s (split_last path))
 
-file_whole : (s : Files) → IsWhole s → Keeps s (with_new_file s)
+file_whole : (s : Files) → IsConsistent s → Keeps s (with_new_file s)
 file_whole s whole =
     let more = length-append {A = List ℕ} s.contents ([] ∷ []) in (
       record {
@@ -174,7 +178,7 @@ noted_grows table text = elim (cases_Bool (is_some (text_number table text))) [
   | inr new ↦ rw new (omega (arith, length-append table (text ∷ [])))
 ]
 
-key_whole : (s : Files) (key : List ℕ) → IsWhole s → Keeps s (record s { keys = noted s.keys key })
+key_whole : (s : Files) (key : List ℕ) → IsConsistent s → Keeps s (record s { keys = noted s.keys key })
 key_whole s key whole =
     let more = noted_grows s.keys key in (
       record {
@@ -190,7 +194,7 @@ key_whole s key whole =
       record { files = omega arith; dirs = omega arith; keys = more; words = omega arith; count = omega arith; slots = λ k n h. h },
     )
 
-word_whole : (s : Files) (word : List ℕ) → IsWhole s → Keeps s (record s { words = noted s.words word })
+word_whole : (s : Files) (word : List ℕ) → IsConsistent s → Keeps s (record s { words = noted s.words word })
 word_whole s word whole = (
   record {
     attrs_there = whole.attrs_there;
@@ -210,7 +214,7 @@ created_whole : (s t : Files) → Keeps s t → Keeps s (with_new_file t)
 created_whole s t (whole, grown) = let made = file_whole t whole in (made.0, grows_on s t (with_new_file t) grown made.1)
 
 -- numbers for new names keep files whole
-pub names_whole : (s : Files) (call : Call) → IsWhole s → Keeps s (with_names s call)
+pub names_whole : (s : Files) (call : Call) → IsConsistent s → Keeps s (with_names s call)
 names_whole s (Mkdir path) whole = (whole, grows_same s)
 names_whole s (Create path) whole = created_whole s (with_slot s path) (slot_whole s path whole)
 names_whole s (Write path at text) whole = (whole, grows_same s)
@@ -223,9 +227,11 @@ names_whole s (Attr path key value) whole = key_whole s key whole
 names_whole s (Fsync path) whole = (whole, grows_same s)
 names_whole s (FsyncDir path) whole = (whole, grows_same s)
 names_whole s Sync whole = (whole, grows_same s)
+names_whole s Begin whole = (whole, grows_same s)
+names_whole s Commit whole = (whole, grows_same s)
 names_whole s (Mark word) whole = word_whole s word whole
 
-dir_whole : (s : Files) (path : List (List ℕ)) → IsWhole s → is_dir s path ≡ false → Keeps s (record s { dirs = s.dirs ++ path ∷ [] })
+dir_whole : (s : Files) (path : List (List ℕ)) → IsConsistent s → is_dir s path ≡ false → Keeps s (record s { dirs = s.dirs ++ path ∷ [] })
 dir_whole s path whole none =
     let more = length-append s.dirs (path ∷ []) in (
       record {
@@ -241,11 +247,11 @@ dir_whole s path whole none =
       record { files = omega arith; dirs = omega (arith, more); keys = omega arith; words = omega arith; count = omega arith; slots = λ k n h. h },
     )
 
-content_whole : (s : Files) (file : Option ℕ) (content : List ℕ) → IsWhole s → Keeps s (with_content s file content)
-content_whole s file content whole =
-    let same = length-set_at file content s.contents in (
+content_whole : (s : Files) (file : Option ℕ) (change : List ℕ → List ℕ) → IsConsistent s → Keeps s (record s { contents = at_place file change s.contents })
+content_whole s file change whole =
+    let same = length-at_place file change s.contents in (
       record {
-        attrs_there = All-weaker (λ a. (a.file < length s.contents) × (a.key < length s.keys)) (λ a. (a.file < length (set_at file content s.contents)) × (a.key < length s.keys)) (λ a h. (omega (arith, h.0, same), h.1)) s.attrs whole.attrs_there;
+        attrs_there = All-weaker (λ a. (a.file < length s.contents) × (a.key < length s.keys)) (λ a. (a.file < length (at_place file change s.contents)) × (a.key < length s.keys)) (λ a h. (omega (arith, h.0, same), h.1)) s.attrs whole.attrs_there;
         attrs_once = whole.attrs_once;
         dirs_there = whole.dirs_there;
         dirs_once = whole.dirs_once;
@@ -257,7 +263,7 @@ content_whole s file content whole =
       record { files = omega (arith, same); dirs = omega arith; keys = omega arith; words = omega arith; count = omega arith; slots = λ k n h. h },
     )
 
-held_whole : (s : Files) (path : List (List ℕ)) (file : Option ℕ) → IsWhole s → Keeps s (with_file s path file)
+held_whole : (s : Files) (path : List (List ℕ)) (file : Option ℕ) → IsConsistent s → Keeps s (with_file s path file)
 held_whole s path file whole = (
   record { attrs_there = whole.attrs_there; attrs_once = whole.attrs_once; dirs_there = whole.dirs_there; dirs_once = whole.dirs_once; slots_once = whole.slots_once; keys_once = whole.keys_once; words_once = whole.words_once; root = whole.root },
   record { files = omega arith; dirs = omega arith; keys = omega arith; words = omega arith; count = omega arith; slots = λ k n h. h },
@@ -299,7 +305,7 @@ both_true false b h = cc
 pub same_number : (m n : ℕ) → (m == n) ≡ true → m ≡ n
 same_number m n h = grind (arith, nat_tests)
 
-attr_set : (s : Files) (v : AttrValue) → v.file < length s.contents → v.key < length s.keys → IsWhole s → (o : Option ℕ) → value_place s.attrs v.file v.key ≡ o
+attr_set : (s : Files) (v : AttrValue) → v.file < length s.contents → v.key < length s.keys → IsConsistent s → (o : Option ℕ) → value_place s.attrs v.file v.key ≡ o
     → Keeps s (record s { attrs = with_value s.attrs v o })
 attr_set s v file key whole None none = (
   record {
@@ -330,7 +336,7 @@ attr_set s v file key whole (Some place) found =
       record { files = omega arith; dirs = omega arith; keys = omega arith; words = omega arith; count = omega arith; slots = λ k n h. h },
     )
 
-attr_whole : (s : Files) (file key : Option ℕ) (value : ℕ) → IfSome file (λ f. f < length s.contents) → IfSome key (λ k. k < length s.keys) → IsWhole s → Keeps s (with_attr s file key value)
+attr_whole : (s : Files) (file key : Option ℕ) (value : ℕ) → IfSome file (λ f. f < length s.contents) → IfSome key (λ k. k < length s.keys) → IsConsistent s → Keeps s (with_attr s file key value)
 attr_whole s None key value there known whole = (whole, grows_same s)
 attr_whole s (Some f) None value there known whole = (whole, grows_same s)
 attr_whole s (Some f) (Some k) value there known whole = attr_set s (record { file = f; key = k; value = value }) there known whole (value_place s.attrs f k) refl
@@ -339,7 +345,7 @@ number_within : (table : List (List ℕ)) (text : List ℕ) (o : Option ℕ) →
 number_within table text None h = tt
 number_within table text (Some k) h = (position-Some (λ entry. bytes_eq entry text) table k [] h).0
 
-rename_whole : (s : Files) (from to : List (List ℕ)) → IsWhole s → Keeps s (changed s (Rename from to))
+rename_whole : (s : Files) (from to : List (List ℕ)) → IsConsistent s → Keeps s (changed s (Rename from to))
 rename_whole s from to whole = elim (cases_Bool (are_one s from to)) [
   | inl one ↦ rw one (whole, grows_same s)
   | inr two ↦ rw two
@@ -353,12 +359,12 @@ abbrev IsNewDir : Files → Call → Type 0
 IsNewDir s (Mkdir path) = is_dir s path ≡ false
 IsNewDir s call = Unit {0}
 
-changed_whole : (s : Files) (call : Call) → IsSmall s → IsNewDir s call → IsWhole s → Keeps s (changed s call)
+changed_whole : (s : Files) (call : Call) → IsSmall s → IsNewDir s call → IsConsistent s → Keeps s (changed s call)
 changed_whole s (Mkdir path) small new whole = dir_whole s path whole new
 changed_whole s (Create path) small new whole = held_whole s path _ whole
-changed_whole s (Write path at text) small new whole = content_whole s (file_of s path) _ whole
-changed_whole s (Append path text) small new whole = content_whole s (file_of s path) _ whole
-changed_whole s (Truncate path size) small new whole = content_whole s (file_of s path) _ whole
+changed_whole s (Write path at text) small new whole = content_whole s (file_of s path) (overwritten at text) whole
+changed_whole s (Append path text) small new whole = content_whole s (file_of s path) (overwritten (size_of s (file_of s path)) text) whole
+changed_whole s (Truncate path size) small new whole = content_whole s (file_of s path) (resized size) whole
 changed_whole s (Link from to) small new whole = held_whole s to _ whole
 changed_whole s (Unlink path) small new whole = held_whole s path _ whole
 changed_whole s (Rename from to) small new whole = rename_whole s from to whole
@@ -366,6 +372,8 @@ changed_whole s (Attr path key value) small new whole = attr_whole s (file_of s 
 changed_whole s (Fsync path) small new whole = (whole, grows_same s)
 changed_whole s (FsyncDir path) small new whole = (whole, grows_same s)
 changed_whole s Sync small new whole = (whole, grows_same s)
+changed_whole s Begin small new whole = (whole, grows_same s)
+changed_whole s Commit small new whole = (whole, grows_same s)
 changed_whole s (Mark word) small new whole = (whole, grows_same s)
 
 pub right_fails : (a b : Bool) → (a || b) ≡ false → b ≡ false
@@ -374,8 +382,7 @@ right_fails false b h = h
 
 new_dir : (s : Files) (call : Call) → refusal s call ≡ None → IsNewDir (with_names s call) call
 new_dir s (Mkdir path) accepted =
-    let first : option_or (no_parent s path) (taken s path) ≡ None = first_none _ _ accepted in
-    right_fails (is_some (file_of s path)) (is_dir s path) (test_fails _ _ (second_none _ _ first))
+    right_fails (is_some (file_of s path)) (is_dir s path) (test_fails (is_some (file_of s path) || is_dir s path) NameTaken (mkdir_none s path accepted).1)
 new_dir s (Create path) accepted = tt
 new_dir s (Write path at text) accepted = tt
 new_dir s (Append path text) accepted = tt
@@ -387,20 +394,22 @@ new_dir s (Attr path key value) accepted = tt
 new_dir s (Fsync path) accepted = tt
 new_dir s (FsyncDir path) accepted = tt
 new_dir s Sync accepted = tt
+new_dir s Begin accepted = tt
+new_dir s Commit accepted = tt
 new_dir s (Mark word) accepted = tt
 
 -- a call that isn't refused keeps files whole
-pub call_whole : (s : Files) (call : Call) → IsSmall s → length s.words < 128 → IsWhole s → refusal s call ≡ None → Keeps s (files_after s call)
+pub call_whole : (s : Files) (call : Call) → IsSmall s → length s.words < 128 → IsConsistent s → refusal s call ≡ None → Keeps s (files_after s call)
 call_whole s call small words whole accepted =
     let named = names_whole s call whole in
     let behind = changed_whole (with_names s call) call (names_small s call small accepted words) (new_dir s call accepted) named.0 in
     (behind.0, grows_on s (with_names s call) (files_after s call) named.1 behind.1)
 
-pub setup_whole : (s : Files) (call : Call) → IsSmall s → s.words ≡ [] → IsWhole s → refusal s call ≡ None → Keeps s (after_setup_call s call)
+pub setup_whole : (s : Files) (call : Call) → IsSmall s → s.words ≡ [] → IsConsistent s → refusal s call ≡ None → Keeps s (after_setup_call s call)
 setup_whole s (Mark word) small unmarked whole accepted = (whole, grows_same s)
 setup_whole s call small unmarked whole accepted = call_whole s call small (let none = ap length unmarked in omega (arith, none)) whole accepted
 
-pub nothing_whole : IsWhole no_files
+pub nothing_whole : IsConsistent no_files
 nothing_whole = record {
   attrs_there = All-nil (λ a. (a.file < 0) × (a.key < 0));
   attrs_once = λ i j d l m. absurd (omega (arith, m));
@@ -413,5 +422,5 @@ nothing_whole = record {
 }
 
 -- what a call changes keeps the numbers of names
-pub call_grows : (s : Files) (call : Call) → IsSmall s → length s.words < 128 → IsWhole s → refusal s call ≡ None → Grows (with_names s call) (files_after s call)
+pub call_grows : (s : Files) (call : Call) → IsSmall s → length s.words < 128 → IsConsistent s → refusal s call ≡ None → Grows (with_names s call) (files_after s call)
 call_grows s call small words whole accepted = (changed_whole (with_names s call) call (names_small s call small accepted words) (new_dir s call accepted) (names_whole s call whole).0).1

@@ -1,12 +1,13 @@
 -- What a call changes: first the names that it uses get numbers, then the files change.
 use Rattle.std.specs.Prelude.{ℕ, ◌+◌, ◌-◌, Bool, ◌&&◌, ◌==◌, if◌then◌else◌, List, [], ◌∷◌, ◌++◌, length, take, drop, replicate, slice_set, Option, Some, None, is_some, position}
 use Rattle.litmus_syntax.specs.declared.call.Call.{Call}
-use Rattle.litmus_syntax.specs.declared.call.Call.TheVariants.{Mkdir, Create, Write, Append, Truncate, Link, Unlink, Rename, Attr, Fsync, FsyncDir, Sync, Mark}
+use Rattle.litmus_syntax.specs.declared.call.Call.TheVariants.{Mkdir, Create, Write, Append, Truncate, Link, Unlink, Rename, Attr, Fsync, FsyncDir, Sync, Mark, Begin, Commit}
 use Rattle.fer_events.specs.declared.tables.SlotName.{SlotName}
 use Rattle.fer_events.specs.declared.tables.AttrValue.{AttrValue}
+use Rattle.fer_events.specs.States.{at_place}
 use Rattle.fer_events.specs.Truth.{text_number, same_file}
 use Rattle.call_events.specs.declared.files.Files.{Files}
-use Rattle.call_events.specs.Found.{entry_of, entry_number, slot_of, file_of, content_of}
+use Rattle.call_events.specs.Found.{entry_of, entry_number, slot_of, file_of, size_of}
 
 -- the table with a text behind it that it hasn't yet
 abbrev pub noted : List (List ℕ) → List ℕ → List (List ℕ)
@@ -33,11 +34,6 @@ with_names s (Attr path key value) = record s { keys = noted s.keys key }
 with_names s (Mark word) = record s { words = noted s.words word }
 with_names s call = s
 
--- the list with another item at a place, if there is a place
-abbrev pub set_at : {X : Type 0} → Option ℕ → X → List X → List X
-set_at None x xs = xs
-set_at (Some place) x xs = slice_set xs place x
-
 -- the content cut or filled up with zeros to a size
 abbrev pub resized : ℕ → List ℕ → List ℕ
 resized size content = take size content ++ replicate (size - length content) 0
@@ -47,12 +43,17 @@ abbrev pub overwritten : ℕ → List ℕ → List ℕ → List ℕ
 overwritten at [] content = content
 overwritten at (b ∷ bs) content = resized at content ++ (b ∷ bs) ++ drop (at + length (b ∷ bs)) content
 
-abbrev pub with_content : Files → Option ℕ → List ℕ → Files
-with_content s file content = record s { contents = set_at file content s.contents }
+-- the files with a text written at a place of a file
+abbrev pub with_text : Files → Option ℕ → ℕ → List ℕ → Files
+with_text s file at text = record s { contents = at_place file (overwritten at text) s.contents }
+
+-- the files with a file of another size
+abbrev pub with_size : Files → Option ℕ → ℕ → Files
+with_size s file size = record s { contents = at_place file (resized size) s.contents }
 
 -- the path comes to name the file, or nothing
 abbrev pub with_file : Files → List (List ℕ) → Option ℕ → Files
-with_file s path file = record s { held = set_at (slot_of s path) file s.held }
+with_file s path file = record s { held = at_place (slot_of s path) (λ _. file) s.held }
 
 -- the attributes with a value for a key of a file
 abbrev pub with_value : List AttrValue → AttrValue → Option ℕ → List AttrValue
@@ -74,9 +75,9 @@ are_one s from to = same_file (file_of s from) (file_of s to)
 abbrev pub changed : Files → Call → Files
 changed s (Mkdir path) = record s { dirs = s.dirs ++ path ∷ [] }
 changed s (Create path) = with_file s path (Some (length s.contents - 1))
-changed s (Write path at text) = with_content s (file_of s path) (overwritten at text (content_of s (file_of s path)))
-changed s (Append path text) = with_content s (file_of s path) (content_of s (file_of s path) ++ text)
-changed s (Truncate path size) = with_content s (file_of s path) (resized size (content_of s (file_of s path)))
+changed s (Write path at text) = with_text s (file_of s path) at text
+changed s (Append path text) = with_text s (file_of s path) (size_of s (file_of s path)) text
+changed s (Truncate path size) = with_size s (file_of s path) size
 changed s (Link from to) = with_file s to (file_of s from)
 changed s (Unlink path) = with_file s path None
 changed s (Rename from to) = if are_one s from to then s else with_file (with_file s to (file_of s from)) from None
@@ -85,6 +86,8 @@ changed s (Fsync path) = s
 changed s (FsyncDir path) = s
 changed s Sync = s
 changed s (Mark word) = s
+changed s Begin = s
+changed s Commit = s
 
 -- the files behind a call that isn't refused
 abbrev pub files_after : Files → Call → Files

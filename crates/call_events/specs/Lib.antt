@@ -2,8 +2,11 @@ pub mod Found
 pub mod Small
 pub mod Refusals
 pub mod Changes
+pub mod Cutting
 pub mod CallEvents
 pub mod Running
 pub mod Asking
 pub mod Resolved
 pub mod Runs
+pub mod Meaning
+pub mod Rows

@@ -1,8 +1,8 @@
 -- Which calls are refused, and with which kind: the first that applies in the order in which a call's row lists them.
-use Rattle.std.specs.Prelude.{ℕ, ◌+◌, Bool, true, false, not, ◌&&◌, ◌||◌, nat_lt, nat_le, if◌then◌else◌, List, length, ◌++◌, count_by, Option, Some, None, is_some, is_none}
+use Rattle.std.specs.Prelude.{ℕ, ◌+◌, Bool, true, false, not, ◌&&◌, ◌||◌, nat_lt, nat_le, if◌then◌else◌, List, [], ◌∷◌, length, ◌++◌, count_by, Option, Some, None, is_some, is_none}
 use Rattle.std.specs.Option.{option_or}
 use Rattle.litmus_syntax.specs.declared.call.Call.{Call}
-use Rattle.litmus_syntax.specs.declared.call.Call.TheVariants.{Mkdir, Create, Write, Append, Truncate, Link, Unlink, Rename, Attr, Fsync, FsyncDir, Sync, Mark}
+use Rattle.litmus_syntax.specs.declared.call.Call.TheVariants.{Mkdir, Create, Write, Append, Truncate, Link, Unlink, Rename, Attr, Fsync, FsyncDir, Sync, Mark, Begin, Commit}
 use Rattle.fer_events.specs.declared.event.Event.{Event}
 use Rattle.fer_events.specs.declared.event.Kind.{Kind}
 use Rattle.fer_events.specs.declared.event.Kind.TheVariants as kind
@@ -67,21 +67,28 @@ names_full s path = kind_if (is_none (slot_of s path) && nat_le 64 (length s.slo
 abbrev pub keys_full : Files → List ℕ → Option CallKind
 keys_full s key = kind_if (is_none (text_number s.keys key) && nat_le 16 (length s.keys)) TooMany
 
+-- the first kind of a row
+abbrev pub first_of : List (Option CallKind) → Option CallKind
+first_of [] = None
+first_of (cause ∷ causes) = option_or cause (first_of causes)
+
 -- the kind with which a call is refused for what it finds among the files
 abbrev pub refusal : Files → Call → Option CallKind
-refusal s (Mkdir path) = option_or (option_or (no_parent s path) (taken s path)) (dirs_full s)
-refusal s (Create path) = option_or (option_or (option_or (no_parent s path) (taken s path)) (files_full s)) (names_full s path)
-refusal s (Write path at text) = option_or (no_file s path) (too_long (at + length text))
-refusal s (Append path text) = option_or (no_file s path) (too_long (size_of s (file_of s path) + length text))
-refusal s (Truncate path size) = option_or (no_file s path) (too_long size)
-refusal s (Link from to) = option_or (option_or (option_or (no_file s from) (no_parent s to)) (taken s to)) (names_full s to)
+refusal s (Mkdir path) = first_of (no_parent s path ∷ taken s path ∷ dirs_full s ∷ [])
+refusal s (Create path) = first_of (no_parent s path ∷ taken s path ∷ files_full s ∷ names_full s path ∷ [])
+refusal s (Write path at text) = first_of (no_file s path ∷ too_long (at + length text) ∷ [])
+refusal s (Append path text) = first_of (no_file s path ∷ too_long (size_of s (file_of s path) + length text) ∷ [])
+refusal s (Truncate path size) = first_of (no_file s path ∷ too_long size ∷ [])
+refusal s (Link from to) = first_of (no_file s from ∷ no_parent s to ∷ taken s to ∷ names_full s to ∷ [])
 refusal s (Unlink path) = no_file s path
-refusal s (Rename from to) = option_or (option_or (option_or (no_file s from) (no_parent s to)) (taken_by_dir s to)) (names_full s to)
-refusal s (Attr path key value) = option_or (no_file s path) (keys_full s key)
+refusal s (Rename from to) = first_of (no_file s from ∷ no_parent s to ∷ taken_by_dir s to ∷ names_full s to ∷ [])
+refusal s (Attr path key value) = first_of (no_file s path ∷ keys_full s key ∷ [])
 refusal s (Fsync path) = no_file s path
 refusal s (FsyncDir path) = no_dir s path
 refusal s Sync = None
 refusal s (Mark word) = None
+refusal s Begin = None
+refusal s Commit = None
 
 abbrev pub is_sync : Kind → Bool
 is_sync kind.Fsync = true

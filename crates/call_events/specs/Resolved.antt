@@ -8,11 +8,12 @@ use Rattle.fer_events.specs.declared.tables.AttrValue.{AttrValue}
 use Rattle.fer_events.specs.Tables.{Trace, Initial}
 use Rattle.call_events.specs.declared.files.Files.{Files}
 use Rattle.call_events.specs.declared.files.Progress.{Progress}
+use Rattle.call_events.specs.declared.making.Sizes.{Sizes}
 use Rattle.call_events.specs.declared.call_kind.CallKind.{CallKind}
 use Rattle.call_events.specs.declared.call_kind.CallFault.{CallFault}
 use Rattle.call_events.specs.declared.call_kind.CallFault.TheVariants.{Refused, OutOfMemory}
 use Rattle.call_events.specs.Found.{no_files}
-use Rattle.call_events.specs.Running.{unless_refused, run_setup, run_body}
+use Rattle.call_events.specs.Running.{unless_refused, run_setup, run_body, begun}
 use Rattle.call_events.specs.Asking.{asked, question_refusal}
 
 -- the state before a body that leaves the files `s`. A name that the body or the question uses first holds no file
@@ -32,6 +33,10 @@ trace_from start s events = record { start = start; events = events; dirs = s.di
 abbrev pub trace_of : Files → Files → List Event → Trace
 trace_of setup s events = trace_from (start_of setup.held setup.contents setup.attrs s) s events
 
+-- the blocks and sectors of a test
+abbrev pub sizes_of : Test → Sizes
+sizes_of litmus = record { block = litmus.block; sector = litmus.sector }
+
 -- what a test gives whose body left this
 abbrev pub asked_of : Test → Files → Result Progress CallFault → Result Trace CallFault
 asked_of litmus setup (Err fault) = Err fault
@@ -40,7 +45,7 @@ asked_of litmus setup (Ok p) = unless_refused (question_refusal p.files litmus.p
 -- what a test gives whose setup left this
 abbrev pub body_of : Test → List Site → Result Files CallFault → Result Trace CallFault
 body_of litmus sites (Err fault) = Err fault
-body_of litmus sites (Ok setup) = asked_of litmus setup (run_body litmus.block 1 (record { files = setup; events = [] }) (with_sites 1 litmus.body sites))
+body_of litmus sites (Ok setup) = asked_of litmus setup (run_body (sizes_of litmus) 1 (begun setup) (with_sites 1 litmus.body sites))
 
 -- the events of a test with sites, or the first refusal: of the setup, of the body, of the question
 unfoldable pub resolved : Test → List Site → Result Trace CallFault

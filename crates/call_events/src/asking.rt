@@ -1,4 +1,6 @@
-ghost use Rattle.std.specs.Prelude.{◌≡◌, ◌≤◌, ◌||◌, is_none, length, fold, OnOk, IfOk};
+ghost use Rattle.std.specs.Prelude.{◌≡◌, ◌≤◌, ◌||◌, is_none, length, fold, IsTrue, OnOk, IfOk};
+ghost use Rattle.litmus_syntax.specs.Forms.{is_formed_path, is_formed_pred};
+ghost use Rattle.call_events.specs.Runs.{AreFormed};
 ghost use Rattle.std.specs.List.{list_any};
 ghost use Rattle.fer_events.specs.Truth.{text_number};
 ghost use Rattle.call_events.specs.Asking.{words_asked, paths_asked, with_asked, asked, has_unknown, question_refusal};
@@ -27,9 +29,12 @@ fn has_unknown(files: &Files, pred: &Pred) -> bool
 
 /// Gives a path that is asked for a slot, where it can be the name of a file.
 fn ask_path(alloc: Global, files: &mut Files, path: &Path) -> Result<(), AllocError>
-    requires { length files.old.dirs ≤ 16 }
+    requires dirs { length files.old.dirs ≤ 16 }
+    requires formed { AreFormed files.old }
+    requires path { IsTrue (is_formed_path path.now) }
     ensures after { OnOk result (files.new ≡ with_asked files.old path.now) }
     ensures dirs { OnOk result (files.new.dirs ≡ files.old.dirs) }
+    ensures formed { OnOk result (AreFormed files.new) }
 {
     if files.is_dir(path.as_slice()) {
         return Ok(());
@@ -40,9 +45,12 @@ fn ask_path(alloc: Global, files: &mut Files, path: &Path) -> Result<(), AllocEr
 
 /// Gives slots to the paths that a predicate asks for, from left to right.
 fn ask(alloc: Global, files: &mut Files, pred: &Pred) -> Result<(), AllocError>
-    requires { length files.old.dirs ≤ 16 }
+    requires dirs { length files.old.dirs ≤ 16 }
+    requires formed { AreFormed files.old }
+    requires pred { IsTrue (is_formed_pred pred.now) }
     ensures after { OnOk result (files.new ≡ asked files.old pred.now) }
     ensures dirs { OnOk result (files.new.dirs ≡ files.old.dirs) }
+    ensures formed { OnOk result (AreFormed files.new) }
 {
     match pred {
         Pred::Exists { path }
@@ -70,9 +78,12 @@ pub fn ask_question(
     files: &mut Files,
     pred: &Pred,
 ) -> Result<Option<CallKind>, AllocError>
-    requires { length files.old.dirs ≤ 16 }
+    requires dirs { length files.old.dirs ≤ 16 }
+    requires formed { AreFormed files.old }
+    requires pred { IsTrue (is_formed_pred pred.now) }
     ensures kind { IfOk result (λ kind. kind ≡ question_refusal files.old pred.now) }
     ensures after { OnOk result (files.new ≡ asked files.old pred.now) }
+    ensures formed { OnOk result (AreFormed files.new) }
 {
     let unknown = cause(has_unknown(files, pred), CallKind::UnknownMark);
     ask(alloc, files, pred)?;

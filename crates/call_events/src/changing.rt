@@ -1,15 +1,14 @@
 ghost use Rattle.std.specs.Prelude.{◌≡◌, false, ◌<◌, ◌≤◌, ◌+◌, ◌-◌, ◌++◌, ◌∷◌, [], length, take, drop, slice_set, ◌^◌, IfSome, OnOk, IfOk};
 ghost use Rattle.call_events.specs.Found.{is_dir, file_of, content_of};
-ghost use Rattle.call_events.specs.Changes.{noted, with_slot, with_names, resized, overwritten, with_content, with_file, value_place, with_attr, changed};
-ghost use Rattle.call_events.specs.Small.{IsSmall, HasRoom};
+ghost use Rattle.call_events.specs.Changes.{noted, with_slot, with_names, with_file, value_place, with_attr, changed};
+ghost use Rattle.call_events.specs.Small.{IsSmall, CanTake};
 ghost use Rattle.litmus_syntax.specs.declared.call.Call.TheVariants.{Rename};
 
 use crate::files::Files;
 use crate::finding::{number_in, slot_place};
 use crate::making::are_one;
 use fer_events::AttrValue;
-use fer_list::Seq;
-use litmus_syntax::{Call, Path, Text, copy_path, copy_text};
+use litmus_syntax::{Call, Path, Text, copy_path};
 use name_tables::Numbered;
 use std::alloc::{AllocError, Global};
 
@@ -56,7 +55,7 @@ pub fn note_names(alloc: Global, files: &mut Files, call: &Call) -> Result<(), A
     match call {
         Call::Create { path } => {
             note_slot(alloc, files, path)?;
-            files.contents.push(Seq::new(alloc))?;
+            files.contents.add(alloc)?;
         }
         Call::Link { to, .. } | Call::Rename { to, .. } => note_slot(alloc, files, to)?,
         Call::Attr { key, .. } => note(alloc, &mut files.keys, key)?,
@@ -64,63 +63,6 @@ pub fn note_names(alloc: Global, files: &mut Files, call: &Call) -> Result<(), A
         _ => {}
     }
     Ok(())
-}
-
-/// The content cut or filled up with zeros to a size.
-fn resized(alloc: Global, size: usize, content: &[u8]) -> Result<Text, AllocError>
-    ensures { IfOk result (λ new. new ≡ resized size content.now) }
-{
-    let mut new = Seq::from_slice(alloc, &content[..content.len().min(size)])?;
-    for _place in 0..size.saturating_sub(content.len()) {
-        new.push(0)?;
-    }
-    Ok(new)
-}
-
-/// Appends the bytes of a text.
-fn append(new: &mut Seq<u8>, text: &[u8]) -> Result<(), AllocError>
-    ensures { OnOk result (new.new ≡ new.old ++ text.now) }
-{
-    for byte in text {
-        new.push(*byte)?;
-    }
-    Ok(())
-}
-
-/// The content with a text written at a place.
-fn overwritten(alloc: Global, at: usize, text: &[u8], content: &[u8]) -> Result<Text, AllocError>
-    requires { at < 2 ^ 32 }
-    ensures { IfOk result (λ new. new ≡ overwritten at text.now content.now) }
-{
-    if text.is_empty() {
-        return copy_text(alloc, content);
-    }
-    let mut new = resized(alloc, at, content)?;
-    append(&mut new, text)?;
-    let end = new.len();
-    if end < content.len() {
-        append(&mut new, &content[end..])?;
-    }
-    Ok(new)
-}
-
-/// The content with a text behind it.
-fn appended(alloc: Global, text: &[u8], content: &[u8]) -> Result<Text, AllocError>
-    ensures { IfOk result (λ new. new ≡ content.now ++ text.now) }
-{
-    let mut new = copy_text(alloc, content)?;
-    append(&mut new, text)?;
-    Ok(new)
-}
-
-/// Gives a file another content.
-fn set_content(files: &mut Files, file: Option<u32>, content: Text)
-    requires { IfSome file (λ f. f < length files.old.contents) }
-    ensures { files.new ≡ with_content files.old file content }
-{
-    if let Some(file) = file {
-        files.contents.set(file as usize, content);
-    }
 }
 
 /// Lets a path name the file, or nothing.
@@ -179,7 +121,7 @@ fn rename(files: &mut Files, from: &Path, to: &Path)
 /// Changes the files as the call says, the names that it uses having their numbers.
 pub fn change(alloc: Global, files: &mut Files, call: &Call) -> Result<(), AllocError>
     requires small { IsSmall files.old }
-    requires room { HasRoom files.old call.now }
+    requires room { CanTake files.old call.now }
     ensures { OnOk result (files.new ≡ changed files.old call.now) }
 {
     match call {
@@ -190,23 +132,17 @@ pub fn change(alloc: Global, files: &mut Files, call: &Call) -> Result<(), Alloc
         }
         Call::Write { path, at, text } => {
             let file = files.file_of(path);
-            let content = overwritten(
-                alloc,
-                *at as usize,
-                text.as_slice(),
-                files.content_of(file),
-            )?;
-            set_content(files, file, content);
+            let at = *at as usize;
+            files.contents.overwrite(file, at, text.as_slice())?;
         }
         Call::Append { path, text } => {
             let file = files.file_of(path);
-            let content = appended(alloc, text.as_slice(), files.content_of(file))?;
-            set_content(files, file, content);
+            let size = files.content_of(file).len();
+            files.contents.overwrite(file, size, text.as_slice())?;
         }
         Call::Truncate { path, size } => {
             let file = files.file_of(path);
-            let content = resized(alloc, *size as usize, files.content_of(file))?;
-            set_content(files, file, content);
+            files.contents.resize(file, *size as usize)?;
         }
         Call::Link { from, to } => {
             let file = files.file_of(from);
@@ -219,7 +155,12 @@ pub fn change(alloc: Global, files: &mut Files, call: &Call) -> Result<(), Alloc
             let key = number_in(&files.keys, key);
             set_value(files, file, key, *value)?;
         }
-        Call::Fsync { .. } | Call::FsyncDir { .. } | Call::Sync | Call::Mark { .. } => {}
+        Call::Fsync { .. }
+        | Call::FsyncDir { .. }
+        | Call::Sync
+        | Call::Mark { .. }
+        | Call::Begin
+        | Call::Commit => {}
     }
     Ok(())
 }

@@ -1,3 +1,4 @@
+use crate::contents::Contents;
 use fer_events::{AttrValue, Event};
 use fer_list::Seq;
 use litmus_syntax::Text;
@@ -12,8 +13,7 @@ pub struct Files {
     pub slots: SlotTable,
     /// The file that each slot holds.
     pub held: Seq<Option<u32>>,
-    /// Each file's bytes.
-    pub contents: Seq<Text>,
+    pub contents: Contents,
     /// The values of attributes, one for each file and key that has one.
     pub attrs: Seq<AttrValue>,
     pub keys: Numbered<u8>,
@@ -26,4 +26,6 @@ pub struct Files {
 pub struct Progress {
     pub files: Files,
     pub events: Seq<Event>,
+    /// The number of the transaction that is open, if one is.
+    pub opened: Option<u32>,
 }

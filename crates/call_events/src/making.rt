@@ -1,10 +1,11 @@
-ghost use Rattle.std.specs.Prelude.{◌≡◌, ◌<◌, ◌≤◌, ◌+◌, ◌-◌, ◌*◌, ◌/◌, ◌^◌, ◌++◌, ◌∷◌, [], length, unwrap_or, IfOk, OnOk};
+ghost use Rattle.std.specs.Prelude.{◌≡◌, ◌≤◌, ◌<◌, ◌+◌, ◌-◌, ◌%◌, ◌∷◌, [], length, min, take, unwrap_or, IfOk};
+ghost use Rattle.fer_events.specs.declared.event.Kind.TheVariants as kind;
+ghost use Rattle.fer_events.specs.declared.event.Effect.TheVariants.{PutName, SetAttr, See};
 ghost use Rattle.fer_events.specs.Truth.{text_number};
 ghost use Rattle.call_events.specs.Found.{dir_number, file_of, size_of};
 ghost use Rattle.call_events.specs.Changes.{are_one};
-ghost use Rattle.call_events.specs.CallEvents.{blocks_touched, piece_start, piece_end, piece, piece_event, pieces, file_event, name_event, dir_event, bare_event, events_of};
-ghost use Rattle.call_events.specs.Small.{IsSmall, HasRoom};
-ghost use Rattle.litmus_syntax.specs.declared.call.Call.TheVariants.{Rename};
+ghost use Rattle.call_events.specs.CallEvents.{piece_event, next_stamp, text_events, file_event, name_event, dir_event, bare_event, rename_events, events_of};
+ghost use Rattle.call_events.specs.Small.{IsSmall, CanTake, IsCutting};
 
 use crate::files::Files;
 use crate::finding::number_in;
@@ -13,11 +14,23 @@ use fer_list::Seq;
 use litmus_syntax::{Call, Path, Text};
 use std::alloc::{AllocError, Global};
 
+/// One more event than a body may have that aren't syncs: no more of a call are made.
+const ENOUGH: usize = 65;
+
+/// The sizes of blocks and of sectors, in bytes. Writes are cut at the multiples of both.
+#[derive(Clone, Copy, Debug)]
+pub struct Sizes {
+    pub block: u32,
+    pub sector: u32,
+}
+
 /// The call and the first transaction of new events, counted from 1.
 #[derive(Clone, Copy, Debug)]
 pub struct Stamp {
     pub call: u32,
     pub txn: u32,
+    /// Whether all events of the call are of this transaction, and not each of the next.
+    pub shared: bool,
 }
 
 /// An event of a file's data.
@@ -107,54 +120,62 @@ pub fn are_one(files: &Files, from: &Path, to: &Path) -> bool
     }
 }
 
-/// How many blocks the bytes of a text touch that is written at a place.
-fn blocks_touched(block: u32, at: u32, text: &Text) -> u32
-    requires block { 0 < block }
-    requires room { at + length text.now ≤ 65536 }
-    ensures { result ≡ blocks_touched block at text.now }
-{
-    if text.len() == 0 {
-        return 0;
+impl Stamp {
+    /// The stamp of the next event of a call.
+    fn next(self) -> Stamp
+        requires { self.txn ≤ 200 }
+        ensures { result ≡ next_stamp self }
+    {
+        if self.shared {
+            return self;
+        }
+        Stamp {
+            txn: self.txn + 1,
+            ..self
+        }
     }
-    (at + (text.len() as u32 - 1)) / block + 1 - at / block
 }
 
-/// The event of the piece of a text in a block.
+/// How many bytes of a text that is written at a place stand before the next block and the next sector.
+fn first_len(sizes: Sizes, at: u32, len: usize) -> usize
+    requires { IsCutting sizes }
+    ensures { result ≡ min len (min (sizes.block - at % sizes.block) (sizes.sector - at % sizes.sector)) }
+{
+    let to_block = sizes.block - at % sizes.block;
+    let to_sector = sizes.sector - at % sizes.sector;
+    len.min(to_block.min(to_sector) as usize)
+}
+
+/// The event of a piece of a text.
 fn piece_event(
     alloc: Global,
-    block: u32,
+    sizes: Sizes,
     stamp: Stamp,
     file: Option<u32>,
     size: u32,
     at: u32,
-    text: &Text,
-    number: u32,
+    text: &[u8],
 ) -> Result<Event, AllocError>
-    requires block { 0 < block }
+    requires cuts { IsCutting sizes }
     requires room { at + length text.now ≤ 65536 }
-    requires touched { (at / block ≤ number) × (number < at / block + blocks_touched block at text.now) }
-    requires txns { stamp.txn ≤ 129 }
-    ensures { IfOk result (λ e. e ≡ piece_event block stamp file size at text.now number) }
+    ensures { IfOk result (λ e. e ≡ piece_event sizes stamp file size (record { at = at; text = text.now })) }
 {
-    let start = at.max(number * block);
-    let next = (number as u64 + 1) * block as u64;
-    let end = (at as u64 + text.len() as u64).min(next) as u32;
-    let piece = &text.as_slice()[(start - at) as usize..(end - at) as usize];
-    let text = Seq::from_slice(alloc, piece)?;
+    let end = at + text.len() as u32;
+    let text = Seq::from_slice(alloc, text)?;
     let fits = end <= size;
     Ok(Event {
         kind: if fits { Kind::Write } else { Kind::Extend },
         file,
-        block: Some(number),
+        block: Some(at / sizes.block),
         dir: None,
         slot: None,
         call: stamp.call,
-        txn: stamp.txn + (number - at / block),
+        txn: stamp.txn,
         effect: if fits {
-            Effect::Bytes { at: start, text }
+            Effect::Bytes { at, text }
         } else {
             Effect::Grow {
-                at: start,
+                at,
                 text,
                 size: end,
             }
@@ -162,27 +183,35 @@ fn piece_event(
     })
 }
 
-#[tactic(auto, using(crate::proofs::PieceLaws::one_more_number))]
-/// The events of a text that is written at a place, one for each block that it touches.
-fn pieces(
+/// The first events of a text that is written at a place: all, or as many as no body may make.
+fn text_events(
     alloc: Global,
-    block: u32,
+    sizes: Sizes,
     stamp: Stamp,
     file: Option<u32>,
     size: u32,
     at: u32,
-    text: &Text,
+    text: &[u8],
 ) -> Result<Seq<Event>, AllocError>
-    requires block { 0 < block }
+    requires cuts { IsCutting sizes }
     requires room { at + length text.now ≤ 65536 }
     requires txns { stamp.txn ≤ 129 }
-    ensures { IfOk result (λ events. events ≡ pieces block stamp file size at text.now) }
+    ensures { IfOk result (λ events. events ≡ take 65 (text_events sizes stamp file size at text.now)) }
 {
     let mut events = Seq::new(alloc);
-    let first = at / block;
-    for place in 0..blocks_touched(block, at, text) {
-        let event = piece_event(alloc, block, stamp, file, size, at, text, first + place)?;
+    let mut stamp = stamp;
+    let mut at = at;
+    let mut rest = text;
+    for _place in 0..ENOUGH {
+        if rest.is_empty() {
+            return Ok(events);
+        }
+        let (piece, behind) = rest.split_at(first_len(sizes, at, rest.len()));
+        let event = piece_event(alloc, sizes, stamp, file, size, at, piece)?;
         events.push(event)?;
+        stamp = stamp.next();
+        at += piece.len() as u32;
+        rest = behind;
     }
     Ok(events)
 }
@@ -205,7 +234,7 @@ fn rename_events(
     to: &Path,
 ) -> Result<Seq<Event>, AllocError>
     requires { IsSmall files.now }
-    ensures { IfOk result (λ events. events ≡ events_of 1 stamp files.now (Rename from.now to.now)) }
+    ensures { IfOk result (λ events. events ≡ rename_events files.now stamp from.now to.now) }
 {
     let mut events = Seq::new(alloc);
     if are_one(files, from, to) {
@@ -217,10 +246,10 @@ fn rename_events(
     Ok(events)
 }
 
-/// The events of a text that is written to a file, at its end where no place is given.
+/// The first events of a text that is written to a file, at its end where no place is given.
 fn write_events(
     alloc: Global,
-    block: u32,
+    sizes: Sizes,
     stamp: Stamp,
     files: &Files,
     path: &Path,
@@ -228,42 +257,69 @@ fn write_events(
     text: &Text,
 ) -> Result<Seq<Event>, AllocError>
     requires small { IsSmall files.now }
-    requires block { 0 < block }
+    requires cuts { IsCutting sizes }
     requires room { unwrap_or at (size_of files.now (file_of files.now path.now)) + length text.now ≤ 65536 }
     requires txns { stamp.txn ≤ 129 }
-    ensures { IfOk result (λ events. events ≡ pieces block stamp (file_of files.now path.now) (size_of files.now (file_of files.now path.now)) (unwrap_or at (size_of files.now (file_of files.now path.now))) text.now) }
+    ensures { IfOk result (λ events. events ≡ take 65 (text_events sizes stamp (file_of files.now path.now) (size_of files.now (file_of files.now path.now)) (unwrap_or at (size_of files.now (file_of files.now path.now))) text.now)) }
 {
     let file = files.file_of(path);
     let size = files.content_of(file).len() as u32;
-    let events = pieces(alloc, block, stamp, file, size, at.unwrap_or(size), text)?;
+    let at = at.unwrap_or(size);
+    let events = text_events(alloc, sizes, stamp, file, size, at, text.as_slice())?;
     Ok(events)
 }
 
-/// The events of a call, the names that it uses having their numbers.
+/// The link of a new name to the newest file.
+fn create_event(files: &Files, stamp: Stamp, path: &Path) -> Event
+    requires small { IsSmall files.now }
+    requires some { 0 < length files.now.contents }
+    ensures { result ≡ name_event files.now stamp kind.Link (Some (length files.now.contents - 1)) path.now PutName }
+{
+    let newest = Some(files.contents.len() as u32 - 1);
+    name_event(files, stamp, Kind::Link, newest, path, Effect::PutName)
+}
+
+/// The event of a value that a file's key gets.
+fn attr_event(files: &Files, stamp: Stamp, path: &Path, key: &Text, value: u32) -> Event
+    requires { IsSmall files.now }
+    ensures { result ≡ file_event stamp kind.Attr (file_of files.now path.now) (SetAttr (unwrap_or (text_number files.now.keys key.now) 0) value) }
+{
+    let key = number_in(&files.keys, key).unwrap_or(0);
+    let set = Effect::SetAttr { key, value };
+    file_event(stamp, Kind::Attr, files.file_of(path), set)
+}
+
+/// The event of a word that is seen.
+fn mark_event(files: &Files, stamp: Stamp, word: &Text) -> Event
+    requires { IsSmall files.now }
+    ensures { result ≡ bare_event stamp kind.Mark (See (unwrap_or (text_number files.now.words word.now) 0)) }
+{
+    let word = number_in(&files.words, word).unwrap_or(0);
+    bare_event(stamp, Kind::Mark, Effect::See { word })
+}
+
+/// The first events of a call, the names that it uses having their numbers: all, or as many as no body may make.
 pub fn events_of(
     alloc: Global,
-    block: u32,
+    sizes: Sizes,
     stamp: Stamp,
     files: &Files,
     call: &Call,
 ) -> Result<Seq<Event>, AllocError>
     requires small { IsSmall files.now }
-    requires block { 0 < block }
-    requires room { HasRoom files.now call.now }
+    requires cuts { IsCutting sizes }
+    requires room { CanTake files.now call.now }
     requires txns { stamp.txn ≤ 129 }
-    ensures { IfOk result (λ events. events ≡ events_of block stamp files.now call.now) }
+    ensures { IfOk result (λ events. events ≡ take 65 (events_of sizes stamp files.now call.now)) }
 {
     let event = match call {
-        Call::Mkdir { .. } => return Ok(Seq::new(alloc)),
-        Call::Create { path } => {
-            let newest = Some(files.contents.len() as u32 - 1);
-            name_event(files, stamp, Kind::Link, newest, path, Effect::PutName)
-        }
+        Call::Mkdir { .. } | Call::Begin | Call::Commit => return Ok(Seq::new(alloc)),
+        Call::Create { path } => create_event(files, stamp, path),
         Call::Write { path, at, text } => {
-            return write_events(alloc, block, stamp, files, path, Some(*at), text);
+            return write_events(alloc, sizes, stamp, files, path, Some(*at), text);
         }
         Call::Append { path, text } => {
-            return write_events(alloc, block, stamp, files, path, None, text);
+            return write_events(alloc, sizes, stamp, files, path, None, text);
         }
         Call::Truncate { path, size } => {
             let cut = Effect::Cut { size: *size };
@@ -278,22 +334,13 @@ pub fn events_of(
             name_event(files, stamp, Kind::Unlink, file, path, Effect::ClearName)
         }
         Call::Rename { from, to } => return rename_events(alloc, stamp, files, from, to),
-        Call::Attr { path, key, value } => {
-            let set = Effect::SetAttr {
-                key: number_in(&files.keys, key).unwrap_or(0),
-                value: *value,
-            };
-            file_event(stamp, Kind::Attr, files.file_of(path), set)
-        }
+        Call::Attr { path, key, value } => attr_event(files, stamp, path, key, *value),
         Call::Fsync { path } => {
             file_event(stamp, Kind::Fsync, files.file_of(path), Effect::Nothing)
         }
         Call::FsyncDir { path } => dir_event(stamp, files.dir_number(path.as_slice())),
         Call::Sync => bare_event(stamp, Kind::Sync, Effect::Nothing),
-        Call::Mark { word } => {
-            let word = number_in(&files.words, word).unwrap_or(0);
-            bare_event(stamp, Kind::Mark, Effect::See { word })
-        }
+        Call::Mark { word } => mark_event(files, stamp, word),
     };
     alone(alloc, event)
 }

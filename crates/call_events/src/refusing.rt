@@ -1,6 +1,6 @@
 ghost use Rattle.std.specs.Prelude.{◌≡◌, ◌≤◌, ◌+◌, ◌<◌, ◌^◌, length};
 ghost use Rattle.call_events.specs.Found.{split_last, file_of, size_of};
-ghost use Rattle.call_events.specs.Refusals.{kind_if, no_file, lacks_parent, no_parent, no_dir, taken, taken_by_dir, too_long, dirs_full, files_full, names_full, keys_full, refusal, is_sync, too_many};
+ghost use Rattle.call_events.specs.Refusals.{kind_if, first_of, no_file, lacks_parent, no_parent, no_dir, taken, taken_by_dir, too_long, dirs_full, files_full, names_full, keys_full, refusal, is_sync, too_many};
 ghost use Rattle.call_events.specs.Small.{IsSmall};
 
 use crate::call_kind::CallKind;
@@ -114,40 +114,59 @@ fn keys_full(files: &Files, key: &Text) -> Option<CallKind>
     cause(test, CallKind::TooMany)
 }
 
-/// Why a call is refused for what it finds among the files, if it is: the first cause in the order that holds for all
-/// calls.
+/// The first kind of a row.
+fn first_of(causes: &[Option<CallKind>]) -> Option<CallKind>
+    ensures { result ≡ first_of causes.now }
+{
+    for cause in causes {
+        if let Some(kind) = cause {
+            return Some(*kind);
+        }
+    }
+    None
+}
+
+/// Why a call is refused for what it finds among the files, if it is: the first cause in the order of its row.
 pub fn refusal(files: &Files, call: &Call) -> Option<CallKind>
     requires { IsSmall files.now }
     ensures { result ≡ refusal files.now call.now }
 {
     match call {
-        Call::Mkdir { path } => no_parent(files, path)
-            .or(taken(files, path))
-            .or(dirs_full(files)),
-        Call::Create { path } => no_parent(files, path)
-            .or(taken(files, path))
-            .or(files_full(files))
-            .or(names_full(files, path)),
+        Call::Mkdir { path } => {
+            first_of(&[no_parent(files, path), taken(files, path), dirs_full(files)])
+        }
+        Call::Create { path } => first_of(&[
+            no_parent(files, path),
+            taken(files, path),
+            files_full(files),
+            names_full(files, path),
+        ]),
         Call::Write { path, at, text } => {
-            no_file(files, path).or(too_long_behind(*at as usize, text))
+            first_of(&[no_file(files, path), too_long_behind(*at as usize, text)])
         }
         Call::Append { path, text } => {
             let size = files.content_of(files.file_of(path)).len();
-            no_file(files, path).or(too_long_behind(size, text))
+            first_of(&[no_file(files, path), too_long_behind(size, text)])
         }
-        Call::Truncate { path, size } => no_file(files, path).or(too_long(*size as usize)),
-        Call::Link { from, to } => no_file(files, from)
-            .or(no_parent(files, to))
-            .or(taken(files, to))
-            .or(names_full(files, to)),
+        Call::Truncate { path, size } => {
+            first_of(&[no_file(files, path), too_long(*size as usize)])
+        }
+        Call::Link { from, to } => first_of(&[
+            no_file(files, from),
+            no_parent(files, to),
+            taken(files, to),
+            names_full(files, to),
+        ]),
         Call::Unlink { path } | Call::Fsync { path } => no_file(files, path),
-        Call::Rename { from, to } => no_file(files, from)
-            .or(no_parent(files, to))
-            .or(taken_by_dir(files, to))
-            .or(names_full(files, to)),
-        Call::Attr { path, key, .. } => no_file(files, path).or(keys_full(files, key)),
+        Call::Rename { from, to } => first_of(&[
+            no_file(files, from),
+            no_parent(files, to),
+            taken_by_dir(files, to),
+            names_full(files, to),
+        ]),
+        Call::Attr { path, key, .. } => first_of(&[no_file(files, path), keys_full(files, key)]),
         Call::FsyncDir { path } => no_dir(files, path),
-        Call::Sync | Call::Mark { .. } => None,
+        Call::Sync | Call::Mark { .. } | Call::Begin | Call::Commit => None,
     }
 }
 

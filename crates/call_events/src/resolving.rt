@@ -1,19 +1,23 @@
 ghost use Rattle.std.specs.Prelude.{◌≡◌, ◌<◌, ◌≤◌, ◌+◌, ◌-◌, ◌++◌, [], length, replicate, Ok, None, IfOk, IfErr, OnOk};
-ghost use Rattle.litmus_syntax.specs.Sites.{AreSyncs};
+ghost use Rattle.litmus_syntax.specs.Sites.{AreSyncs, StandOutside};
 ghost use Rattle.fer_events.specs.Tables.{IsTrace};
 ghost use Rattle.call_events.specs.Resolved.{start_of, trace_from, body_of, HasEvents, IsFaultOf, IsAnswerFor};
 ghost use Rattle.call_events.specs.Running.{unless_refused};
 ghost use Rattle.call_events.specs.Asking.{asked, question_refusal};
 ghost use Rattle.call_events.specs.Small.{IsSmall};
-ghost use Rattle.call_events.specs.Runs.{IsWhole};
+ghost use Rattle.call_events.specs.Runs.{IsConsistent, AreFormed};
 
 use crate::asking::ask_question;
 use crate::call_kind::CallFault;
+use crate::contents::Content;
 use crate::files::{Files, Progress};
+use crate::making::Sizes;
 use crate::running::{run_body, set_up};
 use fer_events::{AttrValue, Event, Events, SlotName, Start};
 use fer_list::Seq;
-use litmus_syntax::{Litmus, Path, Site, Text, body_with_sites, copy_path, copy_text};
+use litmus_syntax::{
+    Litmus, Path, Site, Text, body_with_sites, copy_path, copy_text, inserted_within_limits,
+};
 use name_tables::{Numbered, SlotTable};
 use std::alloc::{AllocError, Global};
 
@@ -33,7 +37,7 @@ fn held_before(
 }
 
 /// Copies of the contents.
-fn copy_contents(alloc: Global, contents: &[Text]) -> Result<Seq<Text>, AllocError>
+fn copy_contents(alloc: Global, contents: &[Content]) -> Result<Seq<Text>, AllocError>
     ensures { IfOk result (λ all. all ≡ contents.now) }
 {
     let mut all = Seq::new(alloc);
@@ -162,10 +166,16 @@ fn ask_and_close(
     progress: Progress,
 ) -> Result<Events, CallFault>
     requires dirs { length progress.files.dirs ≤ 16 }
-    requires rules { question_refusal progress.files litmus.now.pred ≡ None → IsTrace (trace_from (start_of held.now contents attrs (asked progress.files litmus.now.pred)) (asked progress.files litmus.now.pred) progress.events) }
+    requires formed { AreFormed progress.files }
+    requires rules { question_refusal progress.files litmus.now.pred ≡ None → AreFormed (asked progress.files litmus.now.pred) → IsTrace (trace_from (start_of held.now contents attrs (asked progress.files litmus.now.pred)) (asked progress.files litmus.now.pred) progress.events) }
     ensures { IsAnswerFor (unless_refused (question_refusal progress.files litmus.now.pred) litmus.now.pred_line (Ok (trace_from (start_of held.now contents attrs (asked progress.files litmus.now.pred)) (asked progress.files litmus.now.pred) progress.events))) result }
 {
-    let Progress { mut files, events } = progress;
+    let Progress {
+        mut files,
+        events,
+        ..
+    } = progress;
+    litmus.keeps_limits();
     if let Some(kind) = ask_question(alloc, &mut files, litmus.pred())? {
         let line = litmus.pred_line();
         return Err(CallFault::Refused { line, kind });
@@ -184,14 +194,22 @@ fn resolve_body(
     requires syncs { AreSyncs sites.now }
     requires small { IsSmall files }
     requires unmarked { files.words ≡ [] }
-    requires whole { IsWhole files }
+    requires outside { StandOutside litmus.now.body sites.now }
+    requires whole { IsConsistent files }
+    requires formed { AreFormed files }
     ensures { IsAnswerFor (body_of litmus.now sites.now (Ok files)) result }
 {
+    litmus.keeps_limits();
+    inserted_within_limits();
     let held = Seq::from_slice(alloc, files.held.as_slice())?;
     let contents = copy_contents(alloc, files.contents.as_slice())?;
     let attrs = Seq::from_slice(alloc, files.attrs.as_slice())?;
     let body = body_with_sites(alloc, litmus.body(), sites)?;
-    let progress = match run_body(alloc, litmus.block(), files, body.as_slice()) {
+    let sizes = Sizes {
+        block: litmus.block(),
+        sector: litmus.sector(),
+    };
+    let progress = match run_body(alloc, sizes, files, body.as_slice()) {
         Ok(progress) => progress,
         Err(fault) => return Err(fault),
     };
@@ -200,12 +218,14 @@ fn resolve_body(
 
 /// The events of the litmus test with the syncs of the sites inserted, and the state before them. A refusal has the
 /// line of the first call that is refused, those of the setup before those of the body, or else the line of the
-/// question.
+/// question. No site may stand where a transaction is open.
 pub fn resolve(alloc: Global, litmus: &Litmus, sites: &[Site]) -> Result<Events, CallFault>
-    requires { AreSyncs sites.now }
+    requires syncs { AreSyncs sites.now }
+    requires outside { StandOutside litmus.now.body sites.now }
     ensures events { IfOk result (λ events. HasEvents litmus.now sites.now events) }
     ensures refused { IfErr result (λ fault. IsFaultOf litmus.now sites.now fault) }
 {
+    litmus.keeps_limits();
     let files = match set_up(alloc, litmus.setup()) {
         Ok(files) => files,
         Err(fault) => return Err(fault),

@@ -1,5 +1,14 @@
+use Rattle.std.proofs.Common.{List, All, IsTrue, sym, subst}
+use Rattle.litmus_syntax.specs.Forms.{is_formed_call}
+use Rattle.litmus_syntax.specs.declared.call.Step.{Step}
+use Rattle.call_events.proofs.Limits.{setup_is_formed}
 use Rattle.call_events.proofs.Closing.{answer_events, answer_fault, set_up_first, setup_refuses}
 use Rattle.call_events.proofs.resolving.resolve.Goals as goal
+
+pub set_up-requires : goal.set_up-requires
+set_up-requires c =
+    let P : List Step → Type 0 = λ setup. All (λ step. IsTrue (is_formed_call step.call)) setup in
+    subst P (sym c.setup.ensures) (setup_is_formed c.args.litmus.now c.keeps_limits.ensures)
 
 pub returns-in-Err-clause-refused : goal.returns-in-Err-clause-refused
 returns-in-Err-clause-refused c = setup_refuses c.args.litmus.now c.args.sites.now c.setup.result.now c.in-Err.fault c.setup.ensures c.in-Err.ensures.answer

@@ -1,8 +1,0 @@
--- Laws of the pieces of a text that is written.
-use Rattle.std.proofs.Common.{◌≡◌, ℕ, ◌+◌, [], ◌∷◌, ◌++◌, map, refl}
-use Rattle.std.specs.List.{range_with_len}
-use Rattle.std.proofs.lemmas.List.FromFn.{map-range_with_len_more}
-
--- a list made from numbers, with one number more
-pub one_more_number : {X : Type 0} (f : ℕ → X) (a n : ℕ) → map f (range_with_len a (n + 1)) ≡ map f (range_with_len a n) ++ f (a + n) ∷ []
-one_more_number f a n = map-range_with_len_more f a n (a + n) refl
