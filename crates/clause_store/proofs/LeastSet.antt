@@ -1,12 +1,13 @@
 -- Laws of the least set that unit propagation makes.
-use Rattle.std.proofs.Common.{◌≡◌, ◌≢◌, ◌⊎◌, inl, inr, List, [], ◌∷◌, Bool, true, false, not, Contains, if◌then◌else◌, slice_index_or, ◌-◌, refl, ap, sym, ◌∙◌}
+use Rattle.std.proofs.Common.{◌≡◌, ◌≢◌, ◌⊎◌, inl, inr, List, [], ◌∷◌, Bool, true, false, not, Contains, refl, ap, sym, ◌∙◌}
 use Rattle.std.proofs.lemmas.List.Elements.{All-contains}
 use Rattle.clause_store.specs.declared.Lit.{Lit}
 use Rattle.clause_store.specs.Clauses.{negated}
 use Rattle.clause_store.specs.Propagation.{IsImplied, Conflicts, negations, others, Follows, IsNew, HasAll, IsClosed, HasNoConflict}
 use Rattle.clause_store.specs.Propagation.IsImplied.{assumed, forced}
 use Rattle.clause_store.specs.Truth.{is_true, MakesTrue, MakesAllTrue}
-use Rattle.clause_store.proofs.Members.{Contains-negations, Contains-from_negations, Contains-others, Contains-from_others, contains_or_not, negated-negated, Contains-nil, Contains-cons_cases, Contains-head, Contains-tail}
+use Rattle.clause_store.proofs.GeneralLists.{Contains-nil, Contains-cons_cases, Contains-head, Contains-tail}
+use Rattle.clause_store.proofs.GeneralLiterals.{Contains-negations, Contains-from_negations, Contains-others, Contains-from_others, contains_or_not, negated-negated, is_true-negated}
 
 -- the least set lies in each closed one
 pub closed-implied :
@@ -60,14 +61,6 @@ pub cut-conflicts :
     → Conflicts clauses larger → Conflicts clauses start
 cut-conflicts clauses start larger hs found =
     (found.0, found.1, λ m hm. cut-implied clauses start larger hs (negated m) (found.2 m hm))
-
-flip : (b x : Bool) → (if not b then x else not x) ≡ not (if b then x else not x)
-flip true x = refl
-flip false true = refl
-flip false false = refl
-
-pub is_true-negated : (values : List Bool) (l : Lit) → is_true values (negated l) ≡ not (is_true values l)
-is_true-negated values l = flip l.positive (slice_index_or values (l.var - 1) false)
 
 -- where the literal w of a clause is true, and the negations of all but l are, l is
 last-true : (values : List Bool) (w l : Lit) (b : Bool) → is_true values l ≡ b → is_true values w ≡ true → (w ≢ l → is_true values (negated w) ≡ true) → b ≡ true

@@ -1,4 +1,5 @@
--- How a store keeps its clauses: one list of literals, and the place where each clause ends.
+-- Private: how a store keeps its clauses, as one list of literals and the place where each clause ends. Only the contracts
+-- of private functions cite it.
 use Rattle.std.specs.Prelude.{◌≡◌, ℕ, zero, suc, ◌≤◌, List, [], ◌∷◌, length, slice_range, slice_index}
 use Rattle.std.specs.List.{All}
 use Rattle.clause_store.specs.declared.Lit.{Lit}

@@ -1,4 +1,5 @@
 pub mod Clauses
 pub mod Arena
+pub mod Derivations
 pub mod Propagation
 pub mod Truth

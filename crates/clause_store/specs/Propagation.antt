@@ -1,5 +1,5 @@
 -- Reverse unit propagation: which literals clauses imply, which clauses follow from others, and which are new to them.
-use Rattle.std.specs.Prelude.{◌≡◌, ◌≢◌, Bool, true, false, not, List, map, filter}
+use Rattle.std.specs.Prelude.{◌≡◌, ◌≢◌, ◌⊎◌, Bool, true, false, not, List, [], ◌∷◌, map, filter}
 use Rattle.std.specs.List.{Contains}
 use Rattle.clause_store.specs.declared.Lit.{Lit}
 use Rattle.clause_store.specs.Clauses.{negated, lit_eq}
@@ -58,3 +58,21 @@ IsClosed clauses set = (c : List Lit) → Contains clauses c → IsClosedAt c se
 -- no clause is false in the set
 abbrev pub HasNoConflict : List (List Lit) → (Lit → Bool) → Type 0
 HasNoConflict clauses set = (c : List Lit) → Contains clauses c → IsOpenAt c set
+
+-- the set has no literal beside its negation
+abbrev pub IsConsistent : (Lit → Bool) → Type 0
+IsConsistent set = (l : Lit) → set l ≡ true → set (negated l) ≡ false
+
+-- the set has neither the literal nor its negation
+abbrev pub IsFree : (Lit → Bool) → Lit → Type 0
+IsFree set l = (set l ≡ false) × (set (negated l) ≡ false)
+
+-- the set has a literal of the clause, or two different literals of the clause are free
+abbrev pub IsSafeAt : List Lit → (Lit → Bool) → Type 0
+IsSafeAt clause set =
+    ((l : Lit) × Contains clause l × (set l ≡ true))
+    ⊎ ((l m : Lit) × Contains clause l × Contains clause m × (l ≢ m) × IsFree set l × IsFree set m)
+
+-- each literal as a clause of its own
+abbrev pub units : List Lit → List (List Lit)
+units lits = map (λ l. l ∷ []) lits
