@@ -1,0 +1,3 @@
+pub mod GeneralTrails
+pub mod Push
+pub mod Pop
