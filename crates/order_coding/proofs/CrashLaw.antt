@@ -7,9 +7,9 @@ use Rattle.clause_store.specs.Clauses.{Formula}
 use Rattle.clause_store.specs.Truth.{MakesAllTrue}
 use Rattle.fer_events.specs.declared.event.Event.{Event}
 use Rattle.fer_events.specs.declared.event.Crash.{Crash}
-use Rattle.fer_events.specs.Orders.{StandsBefore, before_cut, IsCrash}
+use Rattle.fer_events.specs.Orders.{StandsBefore, before_cut, IsCrash, AreForward}
 use Rattle.order_coding.specs.Variables.{IsNumber, order_vars}
-use Rattle.order_coding.specs.Families.{AreForward, order_clauses, order_formula, txn_of}
+use Rattle.order_coding.specs.Families.{order_clauses, order_formula, txn_of}
 use Rattle.order_coding.specs.Decoded.{is_in, is_before, Describes}
 use Rattle.order_coding.proofs.Lists.{order-of}
 use Rattle.order_coding.proofs.Meaning.{AreMeant, made}

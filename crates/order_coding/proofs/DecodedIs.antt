@@ -7,7 +7,7 @@ use Rattle.std.proofs.lemmas.List.FromFn.{length-range_with_len}
 use Rattle.std.proofs.lemmas.List.Sums.{length-filter, count_by-le-length}
 use Rattle.std.proofs.lemmas.List.Sorted.{length_permutation, Contains-permutation, IsPermutation-sym}
 use Rattle.fer_events.specs.Orders.{numbers}
-use Rattle.clause_store.proofs.Members.{Contains-from_filter}
+use Rattle.clause_store.proofs.GeneralLists.{Contains-from_filter}
 use Rattle.order_coding.specs.Variables.{IsNumber}
 use Rattle.order_coding.specs.Decoded.{is_in, predecessors, IsDecoded}
 use Rattle.order_coding.proofs.Places.{numbers-within}

@@ -12,14 +12,14 @@ use Rattle.std.proofs.lemmas.List.Sorted.{IsPermutation-filter_both, IsPermutati
 use Rattle.std.proofs.lemmas.List.FromFn.{length-range_with_len, get_or-range_with_len}
 use Rattle.clause_store.specs.Clauses.{negated}
 use Rattle.clause_store.specs.Truth.{is_true}
-use Rattle.clause_store.proofs.LeastSet.{is_true-negated}
-use Rattle.clause_store.proofs.Members.{Contains-filter, Contains-from_filter}
+use Rattle.clause_store.proofs.GeneralLiterals.{is_true-negated}
+use Rattle.clause_store.proofs.GeneralLists.{Contains-filter, Contains-from_filter}
 use Rattle.fer_events.specs.declared.event.Event.{Event}
 use Rattle.fer_events.specs.declared.event.Crash.{Crash}
-use Rattle.fer_events.specs.Orders.{numbers, StandsBefore, before_cut, IsCrash}
+use Rattle.fer_events.specs.Orders.{numbers, StandsBefore, before_cut, IsCrash, AreForward}
 use Rattle.order_coding.specs.Tournament.{IsTournament, HasNoCycle}
 use Rattle.order_coding.specs.Variables.{IsNumber, before_lit}
-use Rattle.order_coding.specs.Families.{AreForward, txn_of}
+use Rattle.order_coding.specs.Families.{txn_of}
 use Rattle.order_coding.specs.Decoded.{is_in, is_before, predecessors, IsDecoded}
 use Rattle.order_coding.proofs.Lists.{order-of}
 use Rattle.order_coding.proofs.Meaning.{AreMeant}

@@ -4,7 +4,8 @@ use Rattle.std.specs.List.{flat_map, range_with_len}
 use Rattle.std.proofs.lemmas.Grind.{flat_map-append}
 use Rattle.clause_store.specs.declared.Lit.{Lit}
 use Rattle.clause_store.specs.Clauses.{Formula}
-use Rattle.order_coding.specs.Growth.{joined, IsBeginning}
+use Rattle.order_coding.specs.Growth.{IsBeginning}
+use Rattle.order_coding.specs.Writing.{joined}
 use Rattle.order_coding.proofs.Lists.{range_more}
 
 pub append-nil : {A : Type 0} (xs : List A) → xs ++ [] ≡ xs

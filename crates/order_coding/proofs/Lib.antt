@@ -13,3 +13,4 @@ pub mod Stages
 pub mod Counts
 pub mod DecodedIs
 pub mod MarkTraces
+pub mod Named

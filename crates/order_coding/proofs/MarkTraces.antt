@@ -1,10 +1,11 @@
 -- The marks that tests make are a trace.
-use Rattle.std.proofs.Common.{◌≡◌, ℕ, inl, inr, ◌+◌, ◌<◌, ◌≤◌, Bool, true, ◌&&◌, leb, ltb, List, [], ◌∷◌, length, map, get_or, refl, ap, arith}
+use Rattle.std.proofs.Common.{◌≡◌, ℕ, inl, inr, ◌+◌, ◌<◌, ◌≤◌, Bool, true, IsTrue, ◌&&◌, leb, ltb, List, [], ◌∷◌, codes, length, map, get_or, refl, ap, arith}
 use Rattle.std.specs.List.{list_all, range_with_len}
 use Rattle.std.specs.List.Sorted.{IsNonDecreasingBy}
 use Rattle.std.proofs.lemmas.Bool.Decides.{nat_tests}
-use Rattle.std.proofs.lemmas.List.Elements.{All-nil, All-map}
+use Rattle.std.proofs.lemmas.List.Elements.{All-nil, All-cons, All-map}
 use Rattle.std.proofs.lemmas.List.FromFn.{length-map-range_with_len, get_or-map-range_with_len}
+use Rattle.text_scan.specs.Forms.{is_word}
 use Rattle.fer_events.specs.declared.event.Event.{Event}
 use Rattle.fer_events.specs.Tables.{Trace, IsTrace, IsEventOf}
 use Rattle.std.proofs.lemmas.List.Folds.{list_all_at}
@@ -22,7 +23,7 @@ mark_trace events = record {
   dirs = [];
   slots = [];
   keys = [];
-  words = [] ∷ [];
+  words = codes "m" ∷ [];
 }
 
 txn-rises : (joined a b : ℕ) → 1 ≤ a → a ≤ b → mark_txn joined a ≤ mark_txn joined b
@@ -55,6 +56,10 @@ marks-trace joined n few = record {
   slots_once = λ i j d l k. absurd (omega arith);
   keys_once = λ i j d l k. absurd (omega arith);
   words_once = λ i j d l k. absurd (omega arith);
+  dirs_formed = All-nil _;
+  slots_formed = All-nil _;
+  keys_formed = All-nil _;
+  words_formed = All-cons (λ word. IsTrue (is_word word)) (codes "m") [] (refl {a = true}) (All-nil (λ word. IsTrue (is_word word)));
   events_fit =
       All-map (IsEventOf (mark_trace (marks joined n))) (λ e. mark_event e (mark_txn joined e)) (range_with_len 1 n)
       (All-from_contains (λ e. IsEventOf (mark_trace (marks joined n)) (mark_event e (mark_txn joined e))) (range_with_len 1 n)
@@ -73,14 +78,14 @@ marks-trace joined n few = record {
 abbrev forward : ℕ → ℕ × ℕ → Bool
 forward n p = leb 1 p.0 && ltb p.0 p.1 && leb p.1 n
 
-forward-less : (n a b : ℕ) → (leb 1 a && ltb a b && leb b n) ≡ true → a < b
-forward-less n a b e = grind (arith, nat_tests)
+forward-is : (n a b : ℕ) → (leb 1 a && ltb a b && leb b n) ≡ true → (1 ≤ a) × (a < b) × (b ≤ n)
+forward-is n a b e = (grind (arith, nat_tests), grind (arith, nat_tests), grind (arith, nat_tests))
 
-pub kept-less :
+pub kept-forward :
     (n : ℕ) (kept : List (ℕ × ℕ)) (i : ℕ) (d : ℕ × ℕ)
     → list_all (λ p. leb 1 p.0 && ltb p.0 p.1 && leb p.1 n) kept ≡ true → i < length kept
-    → (get_or kept i d).0 < (get_or kept i d).1
-kept-less n kept i d all h = elim (bit_cases (forward n (get_or kept i d))) [
-  | inl t ↦ forward-less n (get_or kept i d).0 (get_or kept i d).1 t
+    → (1 ≤ (get_or kept i d).0) × ((get_or kept i d).0 < (get_or kept i d).1) × ((get_or kept i d).1 ≤ n)
+kept-forward n kept i d all h = elim (bit_cases (forward n (get_or kept i d))) [
+  | inl t ↦ forward-is n (get_or kept i d).0 (get_or kept i d).1 t
   | inr f ↦ true_false (list_all (forward n) kept) all (list_all_at (forward n) kept i d h f)
 ]

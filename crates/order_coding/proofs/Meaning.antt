@@ -6,8 +6,8 @@ use Rattle.std.proofs.lemmas.List.Elements.{All-append, All-nil, All-cons, All-h
 use Rattle.clause_store.specs.declared.Lit.{Lit}
 use Rattle.clause_store.specs.Clauses.{negated}
 use Rattle.clause_store.specs.Truth.{is_true, MakesTrue, MakesAllTrue}
-use Rattle.clause_store.proofs.LeastSet.{is_true-negated}
-use Rattle.clause_store.proofs.Members.{Contains-map}
+use Rattle.clause_store.proofs.GeneralLiterals.{is_true-negated}
+use Rattle.clause_store.proofs.GeneralLists.{Contains-map}
 use Rattle.fer_events.specs.declared.event.Event.{Event}
 use Rattle.fer_events.specs.Orders.{numbers}
 use Rattle.order_coding.specs.Variables.{IsNumber, in_lit, before_lit}

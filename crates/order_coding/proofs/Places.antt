@@ -6,7 +6,7 @@ use Rattle.std.proofs.lemmas.Bool.Decides.{nat_tests}
 use Rattle.std.proofs.lemmas.List.{take-append-drop, length-take-le, length-drop, get_or-take, get_or-drop}
 use Rattle.std.proofs.lemmas.List.Recursion.{is_count_by}
 use Rattle.std.proofs.lemmas.List.Sorted.{sum_by-IsPermutation, Contains-permutation}
-use Rattle.clause_store.proofs.Members.{Contains-head_is, Contains-tail, Contains-cons_cases, Contains-nil}
+use Rattle.clause_store.proofs.GeneralLists.{Contains-head_is, Contains-tail, Contains-cons_cases, Contains-nil}
 use Rattle.fer_events.specs.Orders.{numbers, StandsBefore}
 use Rattle.order_coding.specs.Variables.{IsNumber}
 use Rattle.order_coding.proofs.Lists.{range_contains, range_within}

@@ -3,7 +3,7 @@ use Rattle.std.proofs.Common.{◌≡◌, ◌≢◌, ℕ, ◌+◌, ◌<◌, ◌�
 use Rattle.std.proofs.lemmas.Bool.{cases_eq}
 use Rattle.std.proofs.lemmas.List.Sums.{sum_by-cons}
 use Rattle.order_coding.specs.Tournament.{IsTournament, HasNoCycle, rank}
-use Rattle.clause_store.proofs.Members.{Contains-head_is, Contains-tail, Contains-cons_cases, Contains-nil}
+use Rattle.clause_store.proofs.GeneralLists.{Contains-head_is, Contains-tail, Contains-cons_cases, Contains-nil}
 
 pub bit_cases : (b : Bool) → (b ≡ true) ⊎ (b ≡ false)
 bit_cases true = inl refl

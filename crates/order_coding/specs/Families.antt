@@ -1,11 +1,10 @@
 -- The clauses that say of values that they are a crash, in four families.
-use Rattle.std.specs.Prelude.{ℕ, ◌+◌, ◌-◌, ◌<◌, ◌≤◌, ◌==◌, List, [], ◌∷◌, ◌++◌, length, map, if◌then◌else◌, slice_index, All}
+use Rattle.std.specs.Prelude.{ℕ, ◌+◌, ◌-◌, ◌==◌, List, [], ◌∷◌, ◌++◌, length, map, if◌then◌else◌, slice_index}
 use Rattle.std.specs.List.{flat_map, range_with_len}
 use Rattle.clause_store.specs.declared.Lit.{Lit}
 use Rattle.clause_store.specs.Clauses.{Formula, negated}
 use Rattle.fer_events.specs.declared.event.Event.{Event}
 use Rattle.fer_events.specs.Orders.{numbers}
-use Rattle.fer_events.specs.Pairs.{has_pair}
 use Rattle.order_coding.specs.Variables.{order_vars, in_lit, before_lit}
 
 -- each kept pair stands in its order
@@ -61,17 +60,6 @@ unfoldable pub order_clauses : List Event → List (ℕ × ℕ) → List (List L
 order_clauses events kept =
     kept_pairs (length events) kept ++ no_cycles (length events) ++ cut_is_prefix (length events) ++ transactions_whole events
 
--- each pair is of two of n events, in program order
-abbrev pub AreForward : ℕ → List (ℕ × ℕ) → Type 0
-AreForward n kept = All (λ p. (1 ≤ p.0) × (p.0 < p.1) × (p.1 ≤ n)) kept
-
 -- the formula that is true of exactly the values of crashes
 abbrev pub order_formula : List Event → List (ℕ × ℕ) → Formula
 order_formula events kept = record { vars = order_vars (length events); clauses = order_clauses events kept }
-
--- the clause of the pair (a, b), if it is kept
-abbrev pub if_kept : ℕ → List (ℕ × ℕ) → ℕ → ℕ → List (List Lit)
-if_kept n kept a b = if has_pair kept a b then (before_lit n a b ∷ []) ∷ [] else []
-
-abbrev pub if_kept_each : ℕ → List (ℕ × ℕ) → ℕ → List (List Lit)
-if_kept_each n kept a = flat_map (if_kept n kept a) (numbers n)

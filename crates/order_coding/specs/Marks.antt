@@ -1,4 +1,4 @@
--- The events that tests make: marks of one word.
+-- Private: the events that tests make, marks of one word. Only the contracts of tests cite it.
 use Rattle.std.specs.Prelude.{ℕ, ◌-◌, None, nat_le, if◌then◌else◌}
 use Rattle.fer_events.specs.declared.event.Event.{Event}
 use Rattle.fer_events.specs.declared.event.Kind.TheVariants.{Mark}

@@ -2,9 +2,9 @@ ghost use Rattle.std.specs.Prelude.{◌≡◌, ◌≢◌, ℕ, ◌+◌, ◌-◌,
 ghost use Rattle.std.specs.List.Sorted.{IsNonDecreasingBy, IsPermutation, IsStrictlyIncreasing};
 ghost use Rattle.clause_store.specs.Clauses.{InVars};
 ghost use Rattle.clause_store.specs.Truth.{is_true, MakesAllTrue};
-ghost use Rattle.fer_events.specs.Orders.{numbers, IsCrash};
+ghost use Rattle.fer_events.specs.Orders.{numbers, AreForward, IsCrash};
 ghost use Rattle.order_coding.specs.Variables.{IsNumber, order_vars};
-ghost use Rattle.order_coding.specs.Families.{AreForward, order_clauses};
+ghost use Rattle.order_coding.specs.Families.{order_clauses};
 ghost use Rattle.order_coding.specs.Decoded.{is_in, is_before, predecessors, IsDecoded};
 
 use crate::variables::{before_lit, in_var};
@@ -23,6 +23,7 @@ pub fn decode(alloc: Global, events: &Events, values: &[bool]) -> Result<Crash, 
         → MakesAllTrue values.now (order_clauses events.now.events kept) → IsCrash events.now.events kept crash) }
     ensures ascends { IfOk result (λ crash. IsStrictlyIncreasing (drop crash.cut crash.order)) }
 {
+    events.keeps_rules();
     let n = events.events().len() as u32;
     let mut order = events_in(alloc, n, values)?;
     let cut = order.len() as u32;

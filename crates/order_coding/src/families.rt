@@ -1,11 +1,12 @@
-ghost use Rattle.std.specs.Prelude.{◌≡◌, ℕ, ◌+◌, ◌-◌, ◌<◌, ◌≤◌, ◌==◌, [], length, OnOk, OnErr, All};
-ghost use Rattle.fer_events.specs.Orders.{IsCrash};
+ghost use Rattle.std.specs.Prelude.{◌≡◌, ℕ, ◌+◌, ◌-◌, ◌<◌, ◌≤◌, ◌==◌, [], length, OnOk, OnErr};
+ghost use Rattle.fer_events.specs.Orders.{AreForward, IsCrash};
 ghost use Rattle.fer_events.specs.Pairs.{has_pair};
 ghost use Rattle.fer_events.specs.declared.event.Crash.{Crash};
 ghost use Rattle.order_coding.specs.Variables.{IsNumber, order_vars, in_lit};
-ghost use Rattle.order_coding.specs.Families.{no_cycle, no_cycle_with, no_cycle_from, no_cycles, in_before, in_before_each, cut_is_prefix, in_together, transactions_whole, if_kept, if_kept_each, kept_pairs, txn_of, order_formula};
+ghost use Rattle.order_coding.specs.Families.{no_cycle, no_cycle_with, no_cycle_from, no_cycles, in_before, in_before_each, cut_is_prefix, in_together, transactions_whole, kept_pairs, txn_of, order_formula};
+ghost use Rattle.order_coding.specs.Writing.{if_kept, if_kept_each, joined};
 ghost use Rattle.order_coding.specs.Decoded.{HasValues};
-ghost use Rattle.order_coding.specs.Growth.{joined, IsBeginning};
+ghost use Rattle.order_coding.specs.Growth.{IsBeginning};
 
 use crate::variables::{before_lit, in_var, order_vars};
 use clause_store::{Lit, Store};
@@ -18,7 +19,7 @@ use std::alloc::AllocError;
 pub fn code_order(store: &mut Store, events: &Events, pairs: &Pairs) -> Result<(), AllocError>
     requires empty { store.old ≡ record { vars = 0; clauses = [] } }
     requires size { pairs.now.n ≡ length events.now.events }
-    requires forward { All (λ p. p.0 < p.1) pairs.now.pairs }
+    requires forward { AreForward pairs.now.n pairs.now.pairs }
     ensures ok { OnOk result (store.new ≡ order_formula events.now.events pairs.now.pairs) }
     ensures err { OnErr result (IsBeginning store.new (order_formula events.now.events pairs.now.pairs)) }
 
@@ -26,6 +27,7 @@ pub fn code_order(store: &mut Store, events: &Events, pairs: &Pairs) -> Result<(
     ensures complete { OnOk result ((crash : Crash) → IsCrash events.now.events pairs.now.pairs crash
         → HasValues (length events.now.events) crash store.new) }
 {
+    events.keeps_rules();
     let n = pairs.n();
     let events = events.events();
     store.raise_vars(order_vars(n));
@@ -39,7 +41,7 @@ pub fn code_order(store: &mut Store, events: &Events, pairs: &Pairs) -> Result<(
 // Each kept pair stands in its order.
 fn keep_pairs(store: &mut Store, pairs: &Pairs) -> Result<(), AllocError>
     requires vars { store.old.vars ≡ order_vars pairs.now.n }
-    requires forward { All (λ p. p.0 < p.1) pairs.now.pairs }
+    requires forward { AreForward pairs.now.n pairs.now.pairs }
     ensures ok { OnOk result (store.new ≡ joined store.old (kept_pairs pairs.now.n pairs.now.pairs)) }
     ensures err { OnErr result (IsBeginning store.new (joined store.old (kept_pairs pairs.now.n pairs.now.pairs))) }
 {
@@ -52,7 +54,7 @@ fn keep_pairs(store: &mut Store, pairs: &Pairs) -> Result<(), AllocError>
 fn keep_pairs_from(store: &mut Store, pairs: &Pairs, a: u32) -> Result<(), AllocError>
     requires vars { store.old.vars ≡ order_vars pairs.now.n }
     requires first { IsNumber pairs.now.n a }
-    requires forward { All (λ p. p.0 < p.1) pairs.now.pairs }
+    requires forward { AreForward pairs.now.n pairs.now.pairs }
     ensures ok { OnOk result (store.new ≡ joined store.old (if_kept_each pairs.now.n pairs.now.pairs a)) }
     ensures err { OnErr result (IsBeginning store.new (joined store.old (if_kept_each pairs.now.n pairs.now.pairs a))) }
 {
@@ -66,7 +68,7 @@ fn keep_pair(store: &mut Store, pairs: &Pairs, a: u32, b: u32) -> Result<(), All
     requires vars { store.old.vars ≡ order_vars pairs.now.n }
     requires first { IsNumber pairs.now.n a }
     requires second { IsNumber pairs.now.n b }
-    requires forward { All (λ p. p.0 < p.1) pairs.now.pairs }
+    requires forward { AreForward pairs.now.n pairs.now.pairs }
     ensures ok { OnOk result (store.new ≡ joined store.old (if_kept pairs.now.n pairs.now.pairs a b)) }
     ensures err { OnErr result (IsBeginning store.new (joined store.old (if_kept pairs.now.n pairs.now.pairs a b))) }
 {

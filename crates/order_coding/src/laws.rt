@@ -1,14 +1,16 @@
 //! Laws of the coding, for every number of events. Each function does nothing: its contract is the law.
 
-ghost use Rattle.std.specs.Prelude.{◌≡◌, ◌↔◌, ℕ, ◌<◌, Bool, true, List, length};
-ghost use Rattle.std.specs.List.{Contains};
+ghost use Rattle.std.specs.Prelude.{◌≡◌, ◌↔◌, ℕ, ◌<◌, Bool, true, List, [], ◌++◌, length};
+ghost use Rattle.std.specs.List.{All, Contains};
+ghost use Rattle.std.specs.List.Sorted.{IsNonDecreasingBy};
+ghost use Rattle.clause_store.specs.Clauses.{InVars};
 ghost use Rattle.clause_store.specs.Truth.{MakesAllTrue};
 ghost use Rattle.fer_events.specs.declared.event.Event.{Event};
 ghost use Rattle.fer_events.specs.declared.event.Crash.{Crash};
-ghost use Rattle.fer_events.specs.Orders.{before_cut, IsCrash, StandsBefore};
+ghost use Rattle.fer_events.specs.Orders.{before_cut, AreForward, IsCrash, StandsBefore};
 ghost use Rattle.order_coding.specs.Tournament.{IsTournament, HasNoCycle, rank};
-ghost use Rattle.order_coding.specs.Variables.{IsNumber};
-ghost use Rattle.order_coding.specs.Families.{AreForward, order_clauses, order_formula};
+ghost use Rattle.order_coding.specs.Variables.{IsNumber, order_vars};
+ghost use Rattle.order_coding.specs.Families.{kept_pairs, order_clauses, order_formula};
 ghost use Rattle.order_coding.specs.Decoded.{is_in, is_before, IsDecoded, HasValues};
 
 /// A choice of one direction for each two numbers, without cycles of three, is a linear order, and the number of
@@ -40,4 +42,24 @@ pub fn decoded_crashes_are_described()
         → MakesAllTrue values (order_clauses events kept) → IsDecoded (length events) values crash
         → (a b : ℕ) → Contains (before_cut crash) a → Contains (before_cut crash) b
         → (is_before (length events) values a b ≡ true) ↔ StandsBefore (before_cut crash) a b }
+{}
+
+/// The crash that is decoded of values which make the clauses true is a crash that keeps the pairs, where the events are
+/// in the order of their transactions.
+pub fn decoded_crashes_are_crashes()
+    ensures { (events : List Event) (kept : List (ℕ × ℕ)) (values : List Bool) (crash : Crash)
+        → IsNonDecreasingBy (λ e. e.txn) events → AreForward (length events) kept
+        → MakesAllTrue values (order_clauses events kept) → IsDecoded (length events) values crash → IsCrash events kept crash }
+{}
+
+/// Each clause is over the coding's variables.
+pub fn clauses_are_over_their_variables()
+    ensures { (events : List Event) (kept : List (ℕ × ℕ)) → AreForward (length events) kept
+        → All (All (InVars (order_vars (length events)))) (order_clauses events kept) }
+{}
+
+/// The clauses of the kept pairs come first, and the others are the same whatever pairs are kept.
+pub fn kept_pairs_come_first()
+    ensures { (events : List Event) (kept : List (ℕ × ℕ))
+        → order_clauses events kept ≡ kept_pairs (length events) kept ++ order_clauses events [] }
 {}

@@ -1,10 +1,11 @@
-ghost use Rattle.std.specs.Prelude.{◌≡◌, ◌<◌, ◌≤◌, ◌&&◌, nat_le, nat_lt, length, IsTrue, IfOk, All};
+ghost use Rattle.std.specs.Prelude.{◌≡◌, ◌<◌, ◌≤◌, ◌&&◌, nat_le, nat_lt, length, IsTrue, IfOk};
 ghost use Rattle.std.specs.List.{list_all};
+ghost use Rattle.fer_events.specs.Orders.{AreForward};
 ghost use Rattle.order_coding.specs.Marks.{mark_event, mark_txn};
 
 use super::*;
 use clause_store::{Lit, Store};
-use fer_events::{Effect, Event, Events, Kind, Pairs, Start};
+use fer_events::{Effect, Event, Events, Kind, Pairs, Start, pairs_are_found};
 use fer_list::Seq;
 use std::alloc::{AllocError, Global};
 use std::test::Fail;
@@ -19,7 +20,7 @@ fn marks(alloc: Global, n: u32, joined: u32) -> Result<Events, AllocError>
         events.push(mark(e, txn_of(joined, e)))?;
     }
     let mut words = Seq::new(alloc);
-    words.push(Seq::new(alloc))?;
+    words.push(Seq::from_slice(alloc, b"m".as_slice())?)?;
     let start = Start::new(Seq::new(alloc), Seq::new(alloc), Seq::new(alloc));
     Ok(Events::new(
         start,
@@ -57,8 +58,9 @@ fn pairs_of(n: u32, kept: &[(u32, u32)]) -> Pairs
     requires few { n ≤ 128 }
     requires forward { IsTrue (list_all (λ p. nat_le 1 p.0 && nat_lt p.0 p.1 && nat_le p.1 n) kept.now) }
     ensures n { result.n ≡ n }
-    ensures forward { All (λ p. p.0 < p.1) result.pairs }
+    ensures forward { AreForward n result.pairs }
 {
+    pairs_are_found();
     let mut pairs = Pairs::new(n);
     for (a, b) in kept {
         pairs.set(*a, *b);

@@ -10,15 +10,15 @@ decoded :
     → IsDecoded (length c.args.events.now.events) c.args.values.now (record { order = c.from_vec.result; cut = c.len-cut.result })
 decoded c =
     decoded-is (length c.events.result.now) (length c.args.events.now.events) c.len-cut.result c.args.values.now c.in_ok-order.order.items c.from_vec.result
-    (ap length c.events.ensures.events) c.in_ok-order.ensures.chosen c.in_ok-order.ensures.by_place (c.from_vec.ensures ∙ c.in_ok-append_events.ensures) (search rules)
+    (ap length c.events.ensures) c.in_ok-order.ensures.chosen c.in_ok-order.ensures.by_place (c.from_vec.ensures ∙ c.in_ok-append_events.ensures) (search rules)
 
 pub overflow_cast-cut : goal.overflow_cast-cut
 overflow_cast-cut c =
     omega (
       arith,
       c.len-cut.ensures,
-      c.events.ensures.rules.few_events,
-      ap length c.events.ensures.events,
+      c.keeps_rules.ensures.few_events,
+      ap length c.events.ensures,
       inside-few (length c.events.result.now) c.args.values.now c.in_ok-order.order.items c.in_ok-order.ensures.chosen,
     )
 
@@ -28,7 +28,7 @@ returns-clause-decoded c = decoded c
 pub returns-clause-crash : goal.returns-clause-crash
 returns-clause-crash c = λ kept forward true_all.
     crashes c.args.values.now c.args.events.now.events (record { order = c.from_vec.result; cut = c.len-cut.result }) (decoded c) kept
-    c.events.ensures.rules.txns_rise forward (meant c.args.values.now c.args.events.now.events kept true_all)
+    c.keeps_rules.ensures.txns_rise forward (meant c.args.values.now c.args.events.now.events kept true_all)
 
 pub returns-clause-ascends : goal.returns-clause-ascends
 returns-clause-ascends c =

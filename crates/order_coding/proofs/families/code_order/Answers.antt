@@ -1,9 +1,9 @@
-use Rattle.std.proofs.Common.{◌≡◌, ℕ, [], length, ◌∙◌, ap}
+use Rattle.std.proofs.Common.{◌≡◌, ℕ, [], length, ◌∙◌, ap, subst}
 use Rattle.std.proofs.lemmas.Result.{err_from_is_err_and}
 use Rattle.clause_store.specs.Clauses.{Formula}
+use Rattle.fer_events.specs.Orders.{AreForward}
 use Rattle.order_coding.specs.Variables.{order_vars}
 use Rattle.order_coding.specs.Families.{order_formula}
-use Rattle.order_coding.proofs.Kept.{listed-forward}
 use Rattle.order_coding.proofs.Stages.{in-first, in-second, in-third, in-fourth, all-four}
 use Rattle.order_coding.proofs.CrashLaw.{crash-values-in}
 use Rattle.order_coding.proofs.families.code_order.Goals as goal
@@ -44,7 +44,7 @@ pub returns-in_err-keep_transactions_whole-clause-err : goal.returns-in_err-keep
 returns-in_err-keep_transactions_whole-clause-err c =
     let p = err_from_is_err_and c.from_residual-in_err-keep_transactions_whole.result c.from_residual-in_err-keep_transactions_whole.ensures.1 in
     rw p.1
-    (in-fourth c.args.events.now.events c.args.pairs.now.pairs c.args.pairs.now.n c.n-n.result c.events-events.result.now c.raise_vars.new.self c.keep_pairs.new.store c.forbid_cycles.new.store c.make_cut_prefix.new.store c.keep_transactions_whole.new.store c.requires.size (c.n-n.ensures.n ∙ c.requires.size) c.events-events.ensures.events
+    (in-fourth c.args.events.now.events c.args.pairs.now.pairs c.args.pairs.now.n c.n-n.result c.events-events.result.now c.raise_vars.new.self c.keep_pairs.new.store c.forbid_cycles.new.store c.make_cut_prefix.new.store c.keep_transactions_whole.new.store c.requires.size (c.n-n.ensures.n ∙ c.requires.size) c.events-events.ensures
     (start-is c.args.store.now c.raise_vars.new.self c.order_vars.result c.n-n.result c.args.pairs.now.n (length c.args.events.now.events) c.requires.empty c.raise_vars.ensures c.order_vars.ensures c.n-n.ensures.n c.requires.size)
     c.in_ok-keep_pairs.ensures.ok c.in_ok-forbid_cycles.ensures.ok c.in_ok-make_cut_prefix.ensures.ok c.in_err-keep_transactions_whole.ensures.err)
 
@@ -52,7 +52,7 @@ written :
     (c : goal.In_ok-keep_transactions_whole)
     → c.keep_transactions_whole.new.store ≡ order_formula c.args.events.now.events c.args.pairs.now.pairs
 written c =
-    all-four c.args.events.now.events c.args.pairs.now.pairs c.args.pairs.now.n c.n-n.result c.events-events.result.now c.raise_vars.new.self c.keep_pairs.new.store c.forbid_cycles.new.store c.make_cut_prefix.new.store c.keep_transactions_whole.new.store c.requires.size (c.n-n.ensures.n ∙ c.requires.size) c.events-events.ensures.events
+    all-four c.args.events.now.events c.args.pairs.now.pairs c.args.pairs.now.n c.n-n.result c.events-events.result.now c.raise_vars.new.self c.keep_pairs.new.store c.forbid_cycles.new.store c.make_cut_prefix.new.store c.keep_transactions_whole.new.store c.requires.size (c.n-n.ensures.n ∙ c.requires.size) c.events-events.ensures
     (start-is c.args.store.now c.raise_vars.new.self c.order_vars.result c.n-n.result c.args.pairs.now.n (length c.args.events.now.events) c.requires.empty c.raise_vars.ensures c.order_vars.ensures c.n-n.ensures.n c.requires.size)
     c.in_ok-keep_pairs.ensures.ok c.in_ok-forbid_cycles.ensures.ok c.in_ok-make_cut_prefix.ensures.ok c.in_ok-keep_transactions_whole.ensures.ok
 
@@ -62,4 +62,4 @@ returns-clause-ok c = written c
 pub returns-clause-complete : goal.returns-clause-complete
 returns-clause-complete c =
     λ crash h. crash-values-in c.args.events.now.events c.args.pairs.now.pairs crash c.keep_transactions_whole.new.store
-    (listed-forward c.args.pairs.now (length c.args.events.now.events) c.requires.size c.n-n.ensures.listed c.requires.forward) h (written c)
+    (subst (λ (n : ℕ). AreForward n c.args.pairs.now.pairs) c.requires.size c.requires.forward) h (written c)
