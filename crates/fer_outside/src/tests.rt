@@ -1,8 +1,12 @@
+ghost use Rattle.std.specs.Prelude.{◌≤◌, length, IfOk};
+
 use super::*;
 use std::alloc::Global;
-use std::fs;
+use std::cell::Cell;
+use std::fmt::Display;
 use std::process::Abort;
 use std::test::Fail;
+use std::{fs, io};
 
 /// Ends the test unless a fetch gives this answer, where a refusal is told by its name.
 fn expect_fetch<L: Library>(
@@ -92,7 +96,9 @@ fn files_on_disk(rt: HostRuntime) -> Result<(), Fail> {
         ("short.lit", 4, "TooLong"),
         ("short.lit", usize::MAX, "five!"),
         ("nowhere.lit", 5, "Missing"),
+        ("short.lit/below", 5, "Failed"),
         (".", 5, "Failed"),
+        ("/proc/self/mem", 5, "Failed"),
     ] {
         expect_fetch(&rt, rt.alloc(), &mut library, row);
     }
@@ -101,7 +107,7 @@ fn files_on_disk(rt: HostRuntime) -> Result<(), Fail> {
 }
 
 #[test]
-fn a_long_file(rt: HostRuntime) -> Result<(), Fail> {
+fn a_file_of_several_reads(rt: HostRuntime) -> Result<(), Fail> {
     let long = vec![in rt.alloc(); 7u8; 5000]?;
     fs::write(&rt, "long.lit", long.as_slice())?;
     let mut library = DiskLibrary::new(&rt);
@@ -112,7 +118,46 @@ fn a_long_file(rt: HostRuntime) -> Result<(), Fail> {
     Ok(())
 }
 
+/// A printer that takes three bytes, then none, and then fails.
+#[derive(Drop)]
+struct Printer {
+    calls: Cell<u32>,
+}
+
+impl Print for Printer {
+    fn print<D: Display + Drop>(&self, _value: D) -> io::Result<()> {
+        Ok(())
+    }
+
+    fn println<D: Display + Drop>(&self, _value: D) -> io::Result<()> {
+        Ok(())
+    }
+
+    fn write_all(&self, _bytes: &[u8]) -> io::Result<()> {
+        Ok(())
+    }
+
+    fn write_some(&self, bytes: &[u8]) -> io::Result<usize>
+        ensures bound { IfOk result (λ n. n ≤ length bytes.now) }
+    {
+        let call = self.calls.get();
+        self.calls.set(call.saturating_add(1));
+        match call {
+            0 => Ok(bytes.len().min(3)),
+            1 => Ok(0),
+            _ => Err(io::Error::from(io::ErrorKind::BrokenPipe)),
+        }
+    }
+}
+
 #[test]
 fn standard_output(rt: HostRuntime) {
     expect_write(&rt, &mut StdSink::new(&rt), ("a line\n", 7));
+    let printer = Printer {
+        calls: Cell::new(0),
+    };
+    let mut sink = StdSink::new(&printer);
+    for row in [("forbidden", 3), ("bidden", 0), ("bidden", 0)] {
+        expect_write(&rt, &mut sink, row);
+    }
 }
