@@ -7,6 +7,7 @@ use ferrite_run::{Words, run};
 use std::alloc::AllocError;
 use std::env;
 use std::env::Env;
+use std::io::ErrorKind;
 use std::process::ExitCode;
 
 /// The status where there is no memory for the words.
@@ -15,8 +16,10 @@ const OUT_OF_MEMORY: u8 = 9;
 /// The words behind the program's name. Where one of them isn't text there are none, which is no command line.
 fn words_of(rt: &(impl Env + AllocGlobal)) -> Result<Words, AllocError> {
     let mut words = Words::new(rt.alloc());
-    let Ok(args) = env::args(rt) else {
-        return Ok(words);
+    let args = match env::args(rt) {
+        Ok(args) => args,
+        Err(error) if error.kind() == ErrorKind::OutOfMemory => return Err(AllocError),
+        Err(_) => return Ok(words),
     };
     for word in args.skip(1) {
         words.push(word.as_str())?;

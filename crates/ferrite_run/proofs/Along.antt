@@ -2,7 +2,7 @@
 use Rattle.std.proofs.Common.{◌≡◌, Bool, true, false, true≢false, ℕ, ◌+◌, ◌-◌, [], ◌∷◌, fold, slice_get, refl, sym, ◌∙◌, ap, arith}
 use Rattle.std.specs.Bool.{beq, MatchBool}
 use Rattle.std.proofs.lemmas.List.Sums.{fold-append}
-use Rattle.fer_events.proofs.OneOrder.{range_split}
+use Rattle.fer_events.proofs.Ranges.{range_split}
 use Rattle.fer_events.specs.Orders.{numbers}
 use Rattle.fer_events.specs.Tables.{Trace}
 use Rattle.fer_events.specs.States.{State, after_option, start_state}

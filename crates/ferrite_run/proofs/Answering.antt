@@ -21,7 +21,7 @@ use Rattle.ferrite_run.specs.Answers.{IsBytesAnswer}
 use Rattle.ferrite_run.specs.Answers.IsBytesAnswer.{unread}
 use Rattle.ferrite_run.specs.Cut.{AnswersAt}
 use Rattle.ferrite_run.specs.Faults.{IsUnread, IsUnresolved}
-use Rattle.ferrite_run.proofs.Crashes.{cut_of_crash, crash_of_cut, rest_ascends}
+use Rattle.ferrite_run.proofs.Crashes.{OneOrder, cut_of_crash, crash_of_cut, rest_ascends}
 
 -- an answer with an equal status and an equal text
 pub moved : (P : ℕ → List ℕ → Type 0) (s t : ℕ) (x y : List ℕ) → t ≡ s → y ≡ x → P s x → P t y
@@ -32,19 +32,19 @@ pub one_trace : (litmus : Test) (t u : Trace) → HasEvents litmus [] t → HasE
 one_trace litmus t u h g = let same : ◌≡◌ {A = Result Trace CallFault} (Ok t) (Ok u) = sym h ∙ g in cc
 
 -- no cut answers
-pub told_forbidden : (litmus : Test) (t : Trace) → HasEvents litmus [] t
+pub told_forbidden : OneOrder → (litmus : Test) (t : Trace) → HasEvents litmus [] t
     → ((k : ℕ) → k ≤ length t.events → AnswersAt t litmus.pred litmus.want k → ⊥) → IsChecked litmus 0 forbidden_text
-told_forbidden litmus t has none = forbidden t has
+told_forbidden one litmus t has none = forbidden t has
     (λ (crash, (u, other, shows)).
     let P : Trace → Type 0 = λ v. IsWitness v (all_pairs (length v.events)) litmus.pred litmus.want crash in
     let here : P t = subst P (one_trace litmus u t other has) shows in
-    none crash.cut here.crashes.within (cut_of_crash t litmus.pred litmus.want crash here))
+    none crash.cut here.crashes.within (cut_of_crash one t litmus.pred litmus.want crash here))
 
 -- a cut answers
-pub told_allowed : (litmus : Test) (t : Trace) (cut : ℕ) → HasEvents litmus [] t → cut ≤ length t.events → AnswersAt t litmus.pred litmus.want cut
+pub told_allowed : OneOrder → (litmus : Test) (t : Trace) (cut : ℕ) → HasEvents litmus [] t → cut ≤ length t.events → AnswersAt t litmus.pred litmus.want cut
     → IsChecked litmus 0 (allowed_text (record { order = numbers (length t.events); cut = cut }))
-told_allowed litmus t cut has within answers =
-    allowed (record { order = numbers (length t.events); cut = cut }) (t, has, crash_of_cut t litmus.pred litmus.want cut within answers)
+told_allowed one litmus t cut has within answers =
+    allowed (record { order = numbers (length t.events); cut = cut }) (t, has, crash_of_cut one t litmus.pred litmus.want cut within answers)
     (rest_ascends (length t.events) cut within)
 
 -- the test has no events

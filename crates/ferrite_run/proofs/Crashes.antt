@@ -10,12 +10,12 @@ use Rattle.std.proofs.lemmas.Option.{slice_get_within, slice_get-get_or}
 use Rattle.litmus_syntax.specs.declared.pred.Pred.{Pred}
 use Rattle.fer_events.specs.declared.event.Event.{Event}
 use Rattle.fer_events.specs.declared.event.Crash.{Crash}
-use Rattle.fer_events.specs.Orders.{numbers, all_pairs, before_cut}
+use Rattle.fer_events.specs.Orders.{numbers, all_pairs, before_cut, IsValidOrder}
 use Rattle.fer_events.specs.Tables.{Trace}
 use Rattle.fer_events.specs.States.{after_numbers, start_state}
 use Rattle.fer_events.specs.Truth.{truth}
 use Rattle.fer_events.specs.Witness.{IsWitness}
-use Rattle.fer_events.proofs.OneOrder.{only_order, numbers_valid, range_split, range_contains}
+use Rattle.fer_events.proofs.Ranges.{range_split, range_contains}
 use Rattle.ferrite_run.specs.Checking.{RestAscends}
 use Rattle.ferrite_run.specs.Cut.{SplitsNone, AnswersAt}
 
@@ -69,11 +69,16 @@ range_within low n a (k, l, e) =
     let short : k < n = omega (arith, l, length-range_with_len low n) in
     omega (arith, short, get_or-range_with_len low n k a short, e)
 
+-- where every pair is kept, program order is the one valid order
+pub record OneOrder : Type 0 where
+  pub valid : (n : ℕ) → IsValidOrder n (all_pairs n) (numbers n)
+  pub only : (n : ℕ) (order : List ℕ) → IsValidOrder n (all_pairs n) order → order ≡ numbers n
+
 -- a crash under all pairs is a cut that splits no transaction
-pub cut_of_crash : (t : Trace) (pred : Pred) (want : Bool) (crash : Crash) → IsWitness t (all_pairs (length t.events)) pred want crash → AnswersAt t pred want crash.cut
-cut_of_crash t pred want crash shows =
+pub cut_of_crash : OneOrder → (t : Trace) (pred : Pred) (want : Bool) (crash : Crash) → IsWitness t (all_pairs (length t.events)) pred want crash → AnswersAt t pred want crash.cut
+cut_of_crash one t pred want crash shows =
     let n = length t.events in
-    let order : crash.order ≡ numbers n = only_order n crash.order shows.crashes.valid in
+    let order : crash.order ≡ numbers n = one.only n crash.order shows.crashes.valid in
     let front : before_cut crash ≡ numbers crash.cut = ap (take crash.cut) order ∙ numbers_before n crash.cut shows.crashes.within in
     record {
       whole = λ a b same before.
@@ -85,14 +90,14 @@ cut_of_crash t pred want crash shows =
     }
 
 -- and such a cut is a crash
-pub crash_of_cut : (t : Trace) (pred : Pred) (want : Bool) (cut : ℕ) → cut ≤ length t.events → AnswersAt t pred want cut
+pub crash_of_cut : OneOrder → (t : Trace) (pred : Pred) (want : Bool) (cut : ℕ) → cut ≤ length t.events → AnswersAt t pred want cut
     → IsWitness t (all_pairs (length t.events)) pred want (record { order = numbers (length t.events); cut = cut })
-crash_of_cut t pred want cut within answers =
+crash_of_cut one t pred want cut within answers =
     let n = length t.events in
     let front : take cut (numbers n) ≡ numbers cut = numbers_before n cut within in
     record {
       crashes = record {
-        valid = numbers_valid n;
+        valid = one.valid n;
         within = within;
         whole = λ a b same before.
             let inside = range_within 1 cut a (let F : List ℕ → Type 0 = λ l. Contains l a in subst F front before) in

@@ -6,7 +6,7 @@ use Rattle.std.proofs.lemmas.List.{map-append}
 use Rattle.std.proofs.lemmas.List.Elements.{filter-append, filter_agree}
 use Rattle.fer_events.specs.Orders.{numbers, all_pairs, pairs_from}
 use Rattle.fer_events.specs.Pairs.{PairList, has_pair, square, IsListed}
-use Rattle.fer_events.proofs.OneOrder.{range_split}
+use Rattle.fer_events.proofs.Ranges.{range_split}
 
 -- the pair is one of numbers of the n events, in program order, and the first number is `last` at most
 abbrev pub is_forward : ℕ → ℕ → ℕ → ℕ → Bool

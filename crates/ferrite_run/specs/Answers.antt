@@ -16,11 +16,12 @@ use Rattle.ferrite_run.specs.Command.{IsCommandLine}
 use Rattle.ferrite_run.specs.Checking.{IsChecked}
 use Rattle.ferrite_run.specs.Listing.{IsListing}
 
--- the status and the text of a command on a litmus test; `show` asks nothing of its calls
+-- the status and the text of a command on a litmus test; `show` writes it in the second version of the grammar, and asks
+-- nothing of its calls
 abbrev pub IsTestAnswer : Command → Test → ℕ → List ℕ → Type 0
 IsTestAnswer Check litmus status text = IsChecked litmus status text
 IsTestAnswer Events litmus status text = IsListing litmus status text
-IsTestAnswer Show litmus status text = (status ≡ 0) × (text ≡ litmus_text litmus)
+IsTestAnswer Show litmus status text = (status ≡ 0) × (text ≡ litmus_text (record litmus { version = 2 }))
 
 -- the status and the text of a command on a litmus file of these bytes
 pub data IsBytesAnswer (command : Command) (bytes : List ℕ) : ℕ → List ℕ → Type 0 where

@@ -7,7 +7,7 @@ ghost use Rattle.ferrite_run.specs.Checking.{IsChecked};
 use crate::answer::{Answer, answered, unresolved};
 use crate::cuts::least_cut;
 use call_events::resolve;
-use fer_events::{Crash, Events};
+use fer_events::{Crash, Events, all_pairs_keep_program_order};
 use fer_list::Seq;
 use litmus_syntax::Litmus;
 use report::{Outcome, text};
@@ -39,6 +39,8 @@ fn verdict(alloc: Global, litmus: &Litmus, events: &Events) -> Result<Vec<u8>, A
     requires { HasEvents litmus.now [] events.now }
     ensures { IfOk result (λ text. IsChecked litmus.now 0 text.items) }
 {
+    all_pairs_keep_program_order();
+    events.keeps_rules();
     match least_cut(alloc, events, litmus.pred(), litmus.want())? {
         None => {
             let text = text(alloc, &Outcome::Forbidden)?;

@@ -1,4 +1,4 @@
-ghost use Rattle.std.specs.Prelude.{◌≡◌, ℕ, ◌≤◌, length, IfOk, MatchBool, MatchOption};
+ghost use Rattle.std.specs.Prelude.{◌≡◌, ℕ, ◌≤◌, ◌<◌, length, IfOk, MatchBool, MatchOption};
 ghost use Rattle.std.specs.List.Sorted.{IsNonDecreasingBy};
 ghost use Rattle.crash_state.specs.Fits.{Fits};
 ghost use Rattle.ferrite_run.specs.Cut.{state_at, SplitsNone, AnswersAt};
@@ -31,6 +31,7 @@ fn answers_at(events: &Events, state: &State, pred: &Pred, want: bool, cut: usiz
     requires at { state.now ≡ state_at events.now cut }
     ensures { MatchBool result (AnswersAt events.now pred.now want cut) (AnswersAt events.now pred.now want cut → ⊥) }
 {
+    events.keeps_rules();
     if !splits_none(events.events(), cut) {
         return false;
     }
@@ -47,9 +48,11 @@ pub fn least_cut(
 ) -> Result<Option<u32>, AllocError>
     ensures { IfOk result (λ found. MatchOption found
         ((k : ℕ) → k ≤ length events.now.events → AnswersAt events.now pred.now want k → ⊥)
-        (λ cut. (cut ≤ length events.now.events) × AnswersAt events.now pred.now want cut)) }
+        (λ cut. (cut ≤ length events.now.events) × AnswersAt events.now pred.now want cut
+        × ((k : ℕ) → k < cut → AnswersAt events.now pred.now want k → ⊥))) }
 {
     let mut state = State::new(alloc, events)?;
+    events.keeps_rules();
     let count = events.events().len() as u32;
     for cut in 0..count {
         if answers_at(events, &state, pred, want, cut as usize) {

@@ -43,6 +43,7 @@ fn every_pair(count: u32) -> Pairs
 fn table(alloc: Global, events: &Events) -> Result<Vec<u8>, AllocError>
     ensures { IfOk result (λ text. text.items ≡ table_text events.now (all_pairs (length events.now.events))) }
 {
+    events.keeps_rules();
     let pairs = every_pair(events.events().len() as u32);
     let outcome = Outcome::EventTable {
         events,

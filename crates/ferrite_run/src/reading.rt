@@ -11,17 +11,18 @@ use litmus_syntax::Litmus;
 use report::{Outcome, text};
 use std::alloc::{AllocError, Global};
 
-/// The test in its canonical text.
-fn show(alloc: Global, litmus: &Litmus) -> Result<Answer, AllocError>
-    ensures { IfOk result (λ a. (a.status ≡ 0) × (a.text.items ≡ litmus_text litmus.now)) }
+/// The test in its canonical text, in the second version of the grammar, which says the sizes of all pieces.
+fn show(alloc: Global, litmus: &mut Litmus) -> Result<Answer, AllocError>
+    ensures { IfOk result (λ a. (a.status ≡ 0) × (a.text.items ≡ litmus_text (record litmus.old { version = 2 }))) }
 {
+    litmus.upgrade();
     let text = text(alloc, &Outcome::Shown { litmus })?;
     Ok(answered(text))
 }
 
 /// What a command answers to a litmus test.
-fn answer_test(alloc: Global, command: Command, litmus: &Litmus) -> Result<Answer, AllocError>
-    ensures { IfOk result (λ a. IsTestAnswer command litmus.now a.status a.text.items) }
+fn answer_test(alloc: Global, command: Command, litmus: &mut Litmus) -> Result<Answer, AllocError>
+    ensures { IfOk result (λ a. IsTestAnswer command litmus.old a.status a.text.items) }
 {
     match command {
         Command::Check => check(alloc, litmus),
@@ -35,8 +36,8 @@ pub fn answer_bytes(alloc: Global, command: Command, bytes: &[u8]) -> Result<Ans
     ensures { IfOk result (λ a. IsBytesAnswer command bytes.now a.status a.text.items) }
 {
     match read(alloc, bytes) {
-        Ok(litmus) => {
-            let answer = answer_test(alloc, command, &litmus)?;
+        Ok(mut litmus) => {
+            let answer = answer_test(alloc, command, &mut litmus)?;
             Ok(answer)
         }
         Err(fault) => {

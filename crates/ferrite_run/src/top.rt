@@ -55,6 +55,7 @@ fn answer_words<L: Library>(
     library: &mut L,
 ) -> Result<Answer, AllocError>
     ensures answered { IfOk result (λ a. IsAnswer (L.held library.old) (λ name. Rose (L.faults library.old name) (L.faults library.new name)) words.now a.status a.text.items) }
+    ensures untouched { ((command : Command) (name : List ℕ) → IsCommandLine words.now command name → ⊥) → library.new ≡ library.old }
     ensures stays { L.held library.new ≡ L.held library.old }
     ensures never_falls { (other : List ℕ) → L.faults library.old other ≤ L.faults library.new other }
 {
@@ -82,8 +83,10 @@ pub fn run<L: Library, K: Sink>(alloc: Global, words: &Words, library: &mut L, o
     // At 8 a write failed, and a part of such a text was written that isn't the whole of it.
     ensures cut_short { result ≡ 8 → (status : ℕ) × (text : List ℕ) × (front : List ℕ) × IsAnswer (L.held library.old) (λ name. Rose (L.faults library.old name) (L.faults library.new name)) words.now status text × IsProperFront front text × Grew (K.written out.old) (K.written out.new) front }
     ensures write_fault { result ≡ 8 → Rose (K.faults out.old) (K.faults out.new) }
-    // At 9 nothing was written.
-    ensures out_of_memory { result ≡ 9 → K.written out.new ≡ K.written out.old }
+    // At 9 no write was tried.
+    ensures out_of_memory { result ≡ 9 → out.new ≡ out.old }
+    // Where the words are no command line nothing is fetched.
+    ensures untouched { ((command : Command) (name : List ℕ) → IsCommandLine words.now command name → ⊥) → library.new ≡ library.old }
     // Where no count of faults rose and memory sufficed, the answer is that of a run without faults.
     ensures complete { ((command : Command) (name : List ℕ) → IsCommandLine words.now command name → Rose (L.faults library.old name) (L.faults library.new name) → ⊥) → (Rose (K.faults out.old) (K.faults out.new) → ⊥)
         → (result ≡ 9) ⊎ ((text : List ℕ) × IsAnswer (L.held library.old) (λ name. ⊥) words.now result text × Grew (K.written out.old) (K.written out.new) text) }

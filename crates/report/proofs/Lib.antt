@@ -1,3 +1,4 @@
 pub mod PathTexts
 pub mod Lines
 pub mod Rows
+mod InsertedSyncs

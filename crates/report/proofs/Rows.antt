@@ -6,7 +6,7 @@ use Rattle.std.proofs.lemmas.List.{append-nil, map-append}
 use Rattle.std.proofs.lemmas.List.Elements.{filter-append}
 use Rattle.fer_events.specs.Orders.{numbers}
 use Rattle.fer_events.specs.Pairs.{PairList, IsListed}
-use Rattle.fer_events.proofs.OneOrder.{range_split}
+use Rattle.fer_events.proofs.Ranges.{range_split}
 use Rattle.report.specs.EventTable.{keep_line}
 use Rattle.report.specs.Rows.{is_listed, row_upto, rows_upto}
 

@@ -30,7 +30,7 @@ forbidden_text = codes "forbidden\n"
 
 -- the words are no command line
 abbrev pub usage_text : List ℕ
-usage_text = codes "usage: ferrite check L M | repair L M | verify L M F | replay L M C | events L M | show L | models | work SEED CALLS\n"
+usage_text = codes "usage: ferrite check L M | repair L M | verify L M F | replay L M C | events L M | show L | models | work SEED CALLS | explain L M | hint L M F G | trim L M F G | flush L M SEED W\n"
 
 -- a litmus file is refused at a line, 0 standing for the whole file, with the number of the fault's kind
 abbrev pub refused_text : ℕ → ℕ → List ℕ

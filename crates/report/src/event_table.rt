@@ -171,6 +171,7 @@ fn push_event(
 pub fn push_events(out: &mut Vec<u8>, events: &Events) -> Result<(), AllocError>
     ensures { OnOk result (out.new.items ≡ out.old.items ++ event_lines events.now 1 events.now.events) }
 {
+    events.keeps_rules();
     for (place, event) in events.events().iter().enumerate() {
         push_event(out, events, place as u32 + 1, event)?;
     }

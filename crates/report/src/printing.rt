@@ -83,7 +83,7 @@ fn usage(alloc: Global) -> Result<Vec<u8>, AllocError>
 {
     Vec::from_slice(
         alloc,
-        b"usage: ferrite check L M | repair L M | verify L M F | replay L M C | events L M | show L | models | work SEED CALLS\n",
+        b"usage: ferrite check L M | repair L M | verify L M F | replay L M C | events L M | show L | models | work SEED CALLS | explain L M | hint L M F G | trim L M F G | flush L M SEED W\n",
     )
 }
 

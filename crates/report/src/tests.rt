@@ -1,6 +1,12 @@
+ghost use Rattle.std.specs.Prelude.{◌≡◌, ℕ, List, [], ◌∷◌, All, IfOk};
+ghost use Rattle.litmus_syntax.specs.declared.call.Call.TheVariants.{Create, Sync};
+ghost use Rattle.litmus_syntax.specs.Transactions.{calls_of};
+
 use super::*;
 use fer_events::Crash;
 use fer_list::Seq;
+use litmus_syntax::{Call, Litmus, Path, Pred, Site, Step, insert};
+use std::alloc::{AllocError, Global};
 use std::test::Fail;
 
 #[test]
@@ -27,6 +33,79 @@ fn texts_of_answers(rt: HostRuntime) -> Result<(), Fail> {
     for (outcome, want) in rows {
         let got = text(alloc, &outcome)?;
         assert_eq!(rt; got.as_slice(), want.as_bytes());
+    }
+    Ok(())
+}
+
+/// A path of one name.
+fn path_of(alloc: Global, name: &[u8]) -> Result<Path, AllocError>
+    ensures { IfOk result (λ path. path ≡ name.now ∷ []) }
+{
+    let mut path = Seq::new(alloc);
+    path.push(Seq::from_slice(alloc, name)?)?;
+    Ok(path)
+}
+
+/// A test of the one call `create /f`, which asks nothing.
+fn one_call(alloc: Global) -> Result<Litmus, AllocError>
+    ensures { IfOk result (λ l. (path : List (List ℕ)) × (calls_of l.body ≡ Create path ∷ [])) }
+{
+    let name = Seq::from_slice(alloc, b"x")?;
+    let path = path_of(alloc, b"f")?;
+    let mut body = Seq::new(alloc);
+    let call = Call::Create { path };
+    body.push(Step { line: 2, call })?;
+    Ok(Litmus::new(
+        name,
+        4096,
+        Seq::new(alloc),
+        body,
+        true,
+        Pred::True,
+        3,
+        1,
+        4096,
+    ))
+}
+
+/// So many syncs behind the first call.
+fn syncs(alloc: Global, count: u32) -> Result<Vec<Site>, AllocError>
+    ensures { IfOk result (λ sites. All (λ site. site ≡ record { after = 1; call = Sync }) sites.items) }
+{
+    let mut sites = Vec::new(alloc);
+    for _ in 0..count {
+        sites.push(Site {
+            after: 1,
+            call: Call::Sync,
+        })?;
+    }
+    Ok(sites)
+}
+
+/// The text of that test with so many syncs inserted.
+fn shown(alloc: Global, count: u32) -> Result<Vec<u8>, AllocError> {
+    let litmus = one_call(alloc)?;
+    let sites = syncs(alloc, count)?;
+    let longer = insert(alloc, &litmus, sites.as_slice())?;
+    text(alloc, &Outcome::Shown { litmus: &longer })
+}
+
+/// What that text is to be.
+fn wanted(alloc: Global, count: u32) -> Result<Vec<u8>, AllocError> {
+    let mut want = Vec::from_slice(alloc, b"litmus x\nblock 4096\nsetup:\nbody:\n  create /f\n")?;
+    for _ in 0..count {
+        want.extend_from_slice(b"  sync\n")?;
+    }
+    want.extend_from_slice(b"exists: true\n")?;
+    Ok(want)
+}
+
+#[test]
+fn texts_with_syncs(rt: HostRuntime) -> Result<(), Fail> {
+    for count in [0, 1, 128] {
+        let got = shown(rt.alloc(), count)?;
+        let want = wanted(rt.alloc(), count)?;
+        assert!(rt; got.as_slice() == want.as_slice());
     }
     Ok(())
 }

@@ -1,5 +1,5 @@
 use Rattle.std.proofs.Common.{◌≡◌, ◌+◌, ◌++◌, ◌∷◌, [], ℕ, List, sym, ◌∙◌, ap, arith}
-use Rattle.fer_events.proofs.OneOrder.{range_split}
+use Rattle.fer_events.proofs.Ranges.{range_split}
 use Rattle.fer_events.specs.Orders.{numbers}
 use Rattle.ferrite_run.proofs.checking.program_order.Goals as goal
 

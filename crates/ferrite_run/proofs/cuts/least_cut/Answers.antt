@@ -22,4 +22,11 @@ returns c =
     let P : ℕ → Type 0 = λ k. AnswersAt t c.args.pred.now c.args.want k → ⊥ in
     let end : length c.events.result.now ≡ c.loop-cut.cut = omega arith in
     let all = below_more P _ c.loop-cut.invariant.none (subst P end c.if-answers_at-2.ensures) in
-    λ k h. all k (omega (arith, ap (λ (es : List Event). length es) c.events.ensures.events))
+    λ k h. all k (omega (arith, ap (λ (es : List Event). length es) c.events.ensures))
+
+pub returns-then-answers_at-2 : goal.returns-then-answers_at-2
+returns-then-answers_at-2 c =
+    let t = c.args.events.now in
+    let end : length c.events.result.now ≡ c.loop-cut.cut = omega arith in
+    let same : length c.events.result.now ≡ length t.events = ap (λ (es : List Event). length es) c.events.ensures in
+    (omega (arith, same), c.if-answers_at-2.ensures, λ k less. c.loop-cut.invariant.none k (omega (arith, less, end)))

@@ -10,7 +10,7 @@ loop-place-preserved c =
     let t = c.args.events.now in
     let k = c.loop-place.place in
     let event = c.event-item.result in
-    let events = c.events-event-items.ensures.events in
+    let events = c.events-event-items.ensures in
     let is : event ≡ get_or t.events k event = c.event-item.is ∙ ap (λ (l : List Event). get_or l k event) events in
     let more : List ℕ = event_line t (k + 1) event in
     c.in_ok-push_event.ensures ∙ ap (λ (l : List ℕ). l ++ more) c.loop-place.invariant
