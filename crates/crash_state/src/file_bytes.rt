@@ -1,11 +1,9 @@
 ghost use Rattle.std.specs.Prelude.{◌≡◌, ◌+◌, ◌≤◌, length, take, vec_len, IfOk};
 ghost use Rattle.fer_events.specs.States.{padded, written, cleared};
 
+use litmus_syntax::MOST_FILE_BYTES;
 use std::alloc::{AllocError, Global};
 use std::marker::Model;
-
-/// How many bytes a file has. Where nothing was written they are zero.
-const FILE_BYTES: usize = 65_536;
 
 /// All bytes of a file, whatever its size. Places and sizes are in bytes.
 #[derive(Debug, Drop)]
@@ -28,7 +26,7 @@ impl FileBytes {
     pub fn unset(alloc: Global) -> Result<FileBytes, AllocError>
         ensures { IfOk result (λ f. length f ≡ 65536) }
     {
-        let bytes = zeros(alloc, FILE_BYTES)?;
+        let bytes = zeros(alloc, MOST_FILE_BYTES)?;
         Ok(FileBytes { bytes })
     }
 

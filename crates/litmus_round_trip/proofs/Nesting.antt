@@ -6,12 +6,12 @@ use Rattle.std.proofs.lemmas.List.Sums.{sum_by-append}
 use Rattle.std.proofs.lemmas.List.Elements.{filter-append}
 use Rattle.lexeme_reader.specs.declared.reading.Lexeme.{Lexeme}
 use Rattle.lexeme_reader.specs.declared.reading.Lexeme.TheVariants.{Word, Number, Path, Text, Sign}
-use Rattle.predicate_reader.specs.Counts.{is_word_of, word_count, text_size, open_behind, most_open}
+use Rattle.predicate_reader.specs.Counts.{is_word_of, word_count, text_size, depth_behind, most_open}
 
 -- how many parentheses are open behind tokens, of as many before them
 abbrev pub open_after : ℕ → List Lexeme → ℕ
 open_after depth [] = depth
-open_after depth (l ∷ ls) = open_after (open_behind depth l) ls
+open_after depth (l ∷ ls) = open_after (depth_behind depth l) ls
 
 most_front : (depth : ℕ) (ls : List Lexeme) → depth ≤ most_open depth ls
 most_front depth [] = omega arith
@@ -19,11 +19,11 @@ most_front depth (l ∷ ls) = omega arith
 
 most_joined : (depth : ℕ) (xs ys : List Lexeme) → most_open depth (xs ++ ys) ≡ max (most_open depth xs) (most_open (open_after depth xs) ys)
 most_joined depth [] ys = omega (arith, most_front depth ys)
-most_joined depth (x ∷ xs) ys = omega (arith, most_joined (open_behind depth x) xs ys)
+most_joined depth (x ∷ xs) ys = omega (arith, most_joined (depth_behind depth x) xs ys)
 
 after_joined : (depth : ℕ) (xs ys : List Lexeme) → open_after depth (xs ++ ys) ≡ open_after (open_after depth xs) ys
 after_joined depth [] ys = refl
-after_joined depth (x ∷ xs) ys = after_joined (open_behind depth x) xs ys
+after_joined depth (x ∷ xs) ys = after_joined (depth_behind depth x) xs ys
 
 -- the tokens open so many parentheses at one place, and close them all
 abbrev pub Nested : ℕ → List Lexeme → Type 0

@@ -9,6 +9,7 @@
 mod call;
 mod copying;
 mod laws;
+mod limits;
 mod litmus;
 mod pred;
 mod printing;
@@ -17,6 +18,10 @@ mod site;
 pub use call::{Call, Path, Step, Text};
 pub use copying::{copy_call, copy_path, copy_pred, copy_text};
 pub use laws::{inserted_within_limits, same_text};
+pub use limits::{
+    MOST_BLOCK, MOST_BODY_CALLS, MOST_FILE_BYTES, MOST_PARENTHESES, MOST_SETUP_CALLS,
+    MOST_TEXT_BYTES, MOST_WORDS, USUAL_BLOCK,
+};
 pub use litmus::Litmus;
 pub use pred::{Binding, Pred};
 pub use printing::{print, push_number, push_path};

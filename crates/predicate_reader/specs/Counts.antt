@@ -26,17 +26,17 @@ text_size (Text text) = length text
 text_size (Sign sign) = 0
 
 -- how many parentheses are open behind a token, of as many before it; a `)` closes one where one is open
-abbrev pub open_behind : ℕ → Lexeme → ℕ
-open_behind depth (Word word) = depth
-open_behind depth (Number n) = depth
-open_behind depth (Path path) = depth
-open_behind depth (Text text) = depth
-open_behind depth (Sign sign) = if sign == 40 then suc depth else (if sign == 41 then depth - 1 else depth)
+abbrev pub depth_behind : ℕ → Lexeme → ℕ
+depth_behind depth (Word word) = depth
+depth_behind depth (Number n) = depth
+depth_behind depth (Path path) = depth
+depth_behind depth (Text text) = depth
+depth_behind depth (Sign sign) = if sign == 40 then suc depth else (if sign == 41 then depth - 1 else depth)
 
 -- the most parentheses that are open at one place, so many of them from before
 abbrev pub most_open : ℕ → List Lexeme → ℕ
 most_open depth [] = depth
-most_open depth (lexeme ∷ lexemes) = max depth (most_open (open_behind depth lexeme) lexemes)
+most_open depth (lexeme ∷ lexemes) = max depth (most_open (depth_behind depth lexeme) lexemes)
 
 -- a question that isn't too long: its texts have 4,096 bytes at most, it has at most 256 words that atoms begin with and
 -- at most 256 words `not`, and at no place are more than 64 parentheses open

@@ -10,11 +10,8 @@ use crate::tokens::{
     behind_equals, behind_sign, number_at, open_path_at, path_at, text_at, word_at,
 };
 use lexeme_reader::Lexeme;
-use litmus_syntax::{Pred, copy_path, copy_text};
+use litmus_syntax::{MOST_FILE_BYTES, Pred, copy_path, copy_text};
 use std::alloc::{AllocError, Global};
-
-/// The end of the last range that a `bytes` atom may have.
-const MOST_BYTES: usize = 65536;
 
 /// The words that an atom begins with, or is.
 #[derive(Clone, Copy, Debug, PartialEq, Eq)]
@@ -52,10 +49,10 @@ pub fn atom_name(word: &[u8]) -> Option<AtomName>
 fn ends_early(at: u32, len: usize) -> bool
     ensures { MatchBool result (at + len ≤ 65536) (at + len ≤ 65536 → ⊥) }
 {
-    if len > MOST_BYTES {
+    if len > MOST_FILE_BYTES {
         return false;
     }
-    at as usize <= MOST_BYTES - len
+    at as usize <= MOST_FILE_BYTES - len
 }
 
 /// What follows the word `exists`, and the tokens behind it.

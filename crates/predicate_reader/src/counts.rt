@@ -1,19 +1,11 @@
 ghost use Rattle.std.specs.Prelude.{◌≡◌, ◌<◌, ◌≤◌, [], ◌∷◌, bytes_eq, codes, map, sum, MatchBool};
 ghost use Rattle.std.specs.List.{list_any};
 ghost use Rattle.litmus_syntax.specs.Counts.{atom_words};
-ghost use Rattle.predicate_reader.specs.Counts.{IsShort, is_word_of, word_count, text_size, open_behind, most_open};
+ghost use Rattle.predicate_reader.specs.Counts.{IsShort, is_word_of, word_count, text_size, depth_behind, most_open};
 
 use crate::atoms::atom_name;
 use lexeme_reader::Lexeme;
-
-/// The most bytes of a question's texts together.
-const MOST_TEXT: usize = 4096;
-
-/// The most words that atoms begin with, and the most words `not`.
-const MOST_WORDS: usize = 256;
-
-/// The most parentheses that may be open at one place.
-const MOST_OPEN: usize = 64;
+use litmus_syntax::{MOST_PARENTHESES, MOST_TEXT_BYTES, MOST_WORDS};
 
 /// Whether an atom begins with this token, or is it.
 fn is_atom_word(lexeme: &Lexeme) -> bool
@@ -64,7 +56,7 @@ fn has_long_texts(asked: &[Lexeme]) -> bool
     let mut rest = asked;
     while let Some((lexeme, behind)) = rest.split_first() {
         let more = text_size(lexeme);
-        if more > MOST_TEXT - size {
+        if more > MOST_TEXT_BYTES - size {
             return true;
         }
         size += more;
@@ -74,9 +66,9 @@ fn has_long_texts(asked: &[Lexeme]) -> bool
 }
 
 /// How many parentheses are open behind a token, of as many before it.
-fn open_behind(depth: usize, lexeme: &Lexeme) -> usize
+fn depth_behind(depth: usize, lexeme: &Lexeme) -> usize
     requires { depth ≤ 64 }
-    ensures { result ≡ open_behind depth lexeme.now }
+    ensures { result ≡ depth_behind depth lexeme.now }
 {
     match lexeme {
         Lexeme::Sign(b'(') => depth + 1,
@@ -85,16 +77,16 @@ fn open_behind(depth: usize, lexeme: &Lexeme) -> usize
     }
 }
 
-/// Whether at some place too many parentheses are open.
+/// Whether at some place more than 64 parentheses are open.
 #[tactic(auto, using(crate::proofs::Depths::most_open_front))]
-fn is_deep(asked: &[Lexeme]) -> bool
-    ensures { MatchBool result (64 < most_open 0 asked.now) (most_open 0 asked.now ≤ 64) }
+pub fn is_deep(lexemes: &[Lexeme]) -> bool
+    ensures { MatchBool result (64 < most_open 0 lexemes.now) (most_open 0 lexemes.now ≤ 64) }
 {
     let mut depth = 0;
-    let mut rest = asked;
+    let mut rest = lexemes;
     while let Some((lexeme, behind)) = rest.split_first() {
-        depth = open_behind(depth, lexeme);
-        if depth > MOST_OPEN {
+        depth = depth_behind(depth, lexeme);
+        if depth > MOST_PARENTHESES {
             return true;
         }
         rest = behind;
