@@ -15,7 +15,7 @@ use Rattle.fer_events.specs.declared.event.Effect.TheVariants.{SetAttr, See}
 use Rattle.fer_events.specs.declared.tables.SlotName.{SlotName}
 use Rattle.fer_events.specs.Tables.{HasEffect, IsEventOf}
 use Rattle.call_events.specs.declared.files.Files.{Files}
-use Rattle.call_events.specs.Found.{entry_number, same_entry}
+use Rattle.fer_events.specs.Paths.{entry_number, same_entry}
 use Rattle.call_events.specs.Runs.{Grows, now}
 use Rattle.call_events.proofs.Whole.{both_true, same_number}
 

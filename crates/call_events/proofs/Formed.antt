@@ -10,7 +10,8 @@ use Rattle.litmus_syntax.specs.Forms.{is_formed_path, is_formed_call}
 use Rattle.fer_events.specs.declared.tables.SlotName.{SlotName}
 use Rattle.fer_events.specs.Truth.{text_number}
 use Rattle.call_events.specs.declared.files.Files.{Files}
-use Rattle.call_events.specs.Found.{no_files, dir_number, is_dir, entry_of, entry_number, named_in, split_last, put_front, file_of}
+use Rattle.fer_events.specs.Paths.{entry_number, name_in, split_last, put_front}
+use Rattle.call_events.specs.Found.{no_files, dir_number, is_dir, entry_of, file_of}
 use Rattle.call_events.specs.Changes.{noted, with_entry, with_slot, with_names, with_attr, are_one, changed, files_after}
 use Rattle.call_events.specs.Running.{after_setup_call}
 use Rattle.call_events.specs.Asking.{with_asked}
@@ -40,7 +41,7 @@ named_formed : (o : Option ℕ) (name : List ℕ) → IsTrue (is_component name)
 named_formed None name formed = tt
 named_formed (Some d) name formed = formed
 
-split_formed : (s : Files) (split : Option (List (List ℕ) × List ℕ)) → LastIsFormed split → EntryIsFormed (named_in s split)
+split_formed : (s : Files) (split : Option (List (List ℕ) × List ℕ)) → LastIsFormed split → EntryIsFormed (name_in s.dirs split)
 split_formed s None formed = tt
 split_formed s (Some (parent, name)) formed = named_formed (dir_number s parent) name formed
 

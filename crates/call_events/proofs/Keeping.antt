@@ -16,7 +16,8 @@ use Rattle.fer_events.proofs.AtPlace.{length-at_place, All-at_place}
 use Rattle.call_events.specs.declared.files.Files.{Files}
 use Rattle.call_events.specs.declared.call_kind.CallKind.{CallKind}
 use Rattle.call_events.specs.Running.{after_setup_call}
-use Rattle.call_events.specs.Found.{no_files, is_dir, entry_of, entry_number, slot_of, file_of, content_of, size_of}
+use Rattle.fer_events.specs.Paths.{entry_number}
+use Rattle.call_events.specs.Found.{no_files, is_dir, entry_of, slot_of, file_of, content_of, size_of}
 use Rattle.call_events.specs.Refusals.{kind_if, first_of, refusal, no_file, no_parent, taken, taken_by_dir, too_long, dirs_full, files_full, names_full, keys_full}
 use Rattle.call_events.specs.declared.call_kind.CallKind.TheVariants.{NoSuchFile, NameTaken, FileTooLong, TooMany}
 use Rattle.call_events.specs.Changes.{noted, with_entry, with_slot, with_new_file, with_names, resized, overwritten, with_file, with_attr, are_one, changed, files_after}

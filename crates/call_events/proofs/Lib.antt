@@ -15,9 +15,7 @@ pub mod NameFits
 pub mod NewEvents
 pub mod Outcomes
 pub mod Paths
-pub mod RowLimits
 pub mod Runs
-pub mod Splitting
 pub mod StateAttrs
 pub mod StateCalls
 pub mod StatePieces

@@ -35,7 +35,7 @@ use Rattle.call_events.proofs.Runs.{run_words, run_more, run_begins}
 use Rattle.call_events.proofs.Whole.{grows_same, grows_on, call_whole, call_grows, setup_whole, nothing_whole}
 use Rattle.call_events.proofs.Tracing.{SlotsAlone, paths_keep}
 use Rattle.call_events.proofs.Frames.{filled}
-use Rattle.call_events.proofs.Paths.{one_slot, paths_ask, all_held}
+use Rattle.call_events.proofs.Paths.{paths_ask, all_held}
 use Rattle.std.specs.Prelude.{option_and_then}
 use Rattle.call_events.proofs.StatePieces.{all_after}
 use Rattle.call_events.proofs.StateAttrs.{values_of}
@@ -201,10 +201,8 @@ body_holds setup sizes steps q pred path kept ran =
     let a : Files = asked s pred in
     let begins : IsRun (begun setup) = run_begins setup kept.small kept.unmarked in
     let long : length s.held ≡ length s.slots = (run_is sizes 1 (begun setup) q steps ran begins).small.held in
-    let whole : IsConsistent a = (paths_keep s (paths_asked pred) (run_whole sizes 1 (begun setup) q steps ran begins kept.whole)).0.0 in
     let holds : List (Option ℕ) → Option ℕ → Option ℕ = λ held slot. option_and_then (λ h. h) (item_at held slot) in
-    ap (holds (filled (length a.slots) None s.held)) (one_slot a path whole)
-    ∙ ap (λ (held : List (Option ℕ)). holds held (slot_of a path)) (all_held s (paths_asked pred) long)
+    ap (λ (held : List (Option ℕ)). holds held (slot_of a path)) (all_held s (paths_asked pred) long)
     ∙ (paths_ask (length a.slots) s (paths_asked pred) long).files path
 
 -- the files that the calls of a test leave are what its events leave

@@ -11,14 +11,16 @@ use Rattle.fer_events.specs.declared.event.Effect.{Effect}
 use Rattle.fer_events.specs.declared.tables.SlotName.{SlotName}
 use Rattle.fer_events.specs.Tables.{Carried, carried_by, HasEffect, IsEventOf}
 use Rattle.fer_events.specs.Truth.{item_at}
+use Rattle.fer_events.proofs.GeneralPlaces.{passes_within}
 use Rattle.call_events.specs.declared.files.Files.{Files}
 use Rattle.call_events.specs.declared.making.Stamp.{Stamp}
-use Rattle.call_events.specs.Found.{put_front, split_last, dir_number, is_dir, named_in, entry_of, entry_number, same_entry, slot_of, file_of}
+use Rattle.fer_events.specs.Paths.{put_front, split_last, name_in, entry_number, same_entry}
+use Rattle.call_events.specs.Found.{dir_number, is_dir, entry_of, slot_of, file_of}
 use Rattle.call_events.specs.Refusals.{lacks_parent}
 use Rattle.call_events.specs.Changes.{with_entry}
 use Rattle.call_events.specs.CallEvents.{name_event}
 use Rattle.call_events.specs.Runs.{now}
-use Rattle.call_events.proofs.Whole.{entry_within, passes_within, place_is, found_more, get_more, same_entry-refl}
+use Rattle.call_events.proofs.Whole.{entry_within, place_is, found_more, get_more, same_entry-refl}
 use Rattle.call_events.proofs.Fitting.{entry_dir}
 
 abbrev made : Stamp → Kind → Option ℕ → Effect → List SlotName → Option SlotName → Event
@@ -66,7 +68,7 @@ dir_known : (o : Option ℕ) (name : List ℕ) → not (is_some o) ≡ false →
 dir_known None name h = absurd (true≢false h)
 dir_known (Some d) name h = refl
 
-split_known : (s : Files) (split : Option (List (List ℕ) × List ℕ)) → is_some split ≡ true → lacks_parent s split ≡ false → is_some (named_in s split) ≡ true
+split_known : (s : Files) (split : Option (List (List ℕ) × List ℕ)) → is_some split ≡ true → lacks_parent s split ≡ false → is_some (name_in s.dirs split) ≡ true
 split_known s None some lacks = absurd (true≢false (sym some))
 split_known s (Some (parent, name)) some lacks = dir_known (dir_number s parent) name lacks
 

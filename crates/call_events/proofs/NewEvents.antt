@@ -14,6 +14,7 @@ use Rattle.fer_events.specs.declared.event.Effect.{Effect}
 use Rattle.fer_events.specs.declared.event.Effect.TheVariants.{Cut, SetAttr, PutName, ClearName, Nothing}
 use Rattle.fer_events.specs.Tables.{Trace, Carried, carried_by, HasEffect, IsEventOf}
 use Rattle.fer_events.specs.Truth.{item_at, text_number}
+use Rattle.fer_events.proofs.GeneralPlaces.{passes_within}
 use Rattle.call_events.specs.declared.files.Files.{Files}
 use Rattle.call_events.specs.declared.making.Sizes.{Sizes}
 use Rattle.call_events.specs.declared.making.Stamp.{Stamp}
@@ -25,7 +26,7 @@ use Rattle.call_events.specs.CallEvents.{file_event, name_event, dir_event, even
 use Rattle.call_events.specs.Small.{IsSmall}
 use Rattle.call_events.specs.Runs.{IsConsistent, now}
 use Rattle.call_events.proofs.Keeping.{create_none, link_none, rename_none, write_none, attr_none, file_present, test_fails, names_small, names_room, file_there}
-use Rattle.call_events.proofs.Whole.{bytes_eq-refl, passes_within, place_is, dir_within, right_fails}
+use Rattle.call_events.proofs.Whole.{bytes_eq-refl, place_is, dir_within, right_fails}
 use Rattle.call_events.proofs.NameFits.{name_fits, slotted, is_name, file_kept}
 use Rattle.call_events.proofs.CallFits.{text_fits}
 

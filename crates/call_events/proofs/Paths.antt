@@ -1,4 +1,4 @@
--- A path has one slot and holds one file, whether it is found by its directory and name or as a whole.
+-- Names that a question asks for change no file of a path.
 use Rattle.std.proofs.Common.{◌≡◌, ◌≢◌, ℕ, ◌-◌, ◌<◌, ◌≤◌, ◌⊎◌, ◌==◌, inl, inr, Bool, true, false, ◌&&◌, List, [], ◌∷◌, ◌++◌, length, fold, replicate, get_or, bytes_eq, Option, Some, None, is_some, IfSome, slice_get, refl, sym, ◌∙◌, ap, subst, arith, length-append}
 use Rattle.std.specs.List.{AllPairs, position}
 use Rattle.std.specs.Option.{option_map}
@@ -11,107 +11,16 @@ use Rattle.std.proofs.lemmas.List.Elements.{All-weaker}
 use Rattle.std.proofs.lemmas.List.Quantifiers.{position-Some}
 use Rattle.std.proofs.lemmas.Option.{slice_get_cases, unwrap_or-slice_get}
 use Rattle.fer_events.specs.declared.tables.SlotName.{SlotName}
-use Rattle.fer_events.specs.Truth.{same_path, slot_path, item_at}
-use Rattle.fer_events.proofs.PathLaws.{same_path-ends, longer_than_root}
-use Rattle.name_tables.proofs.Places.{found_alike, found_nowhere}
+use Rattle.fer_events.specs.Paths.{same_path, slot_path}
+use Rattle.fer_events.specs.Truth.{item_at}
+use Rattle.fer_events.proofs.GeneralPlaces.{fresh}
 use Rattle.call_events.specs.declared.files.Files.{Files}
-use Rattle.call_events.specs.Found.{put_front, split_last, dir_number, is_dir, named_in, entry_of, entry_number, same_entry, slot_of, file_of}
+use Rattle.fer_events.specs.Paths.{put_front, split_last, name_in, entry_number, same_entry}
+use Rattle.call_events.specs.Found.{dir_number, is_dir, entry_of, slot_of, file_of}
 use Rattle.call_events.specs.Changes.{with_entry}
 use Rattle.call_events.specs.Asking.{with_asked}
-use Rattle.call_events.specs.Runs.{IsConsistent}
 use Rattle.call_events.proofs.Frames.{filled, filled_more}
-use Rattle.call_events.proofs.Whole.{fresh, found_more, get_more}
-
-same_bytes : (xs ys : List ℕ) → bytes_eq xs ys ≡ true → xs ≡ ys
-same_bytes [] [] h = refl
-same_bytes [] (y ∷ ys) h = cc
-same_bytes (x ∷ xs) [] h = cc
-same_bytes (x ∷ xs) (y ∷ ys) h =
-    let both = and_parts (x == y) (bytes_eq xs ys) h in
-    let first : x ≡ y = same_number x y both.0 in
-    let rest : xs ≡ ys = same_bytes xs ys both.1 in
-    cc
-  where
-    same_number : (m n : ℕ) → (m == n) ≡ true → m ≡ n
-    same_number m n h = grind (arith, nat_tests)
-
-same_paths : (xs ys : List (List ℕ)) → same_path xs ys ≡ true → xs ≡ ys
-same_paths [] [] h = refl
-same_paths [] (y ∷ ys) h = cc
-same_paths (x ∷ xs) [] h = cc
-same_paths (x ∷ xs) (y ∷ ys) h =
-    let both = and_parts (bytes_eq x y) (same_path xs ys) h in
-    let first : x ≡ y = same_bytes x y both.0 in
-    let rest : xs ≡ ys = same_paths xs ys both.1 in
-    cc
-
--- of directories that differ only one has the path
-one_dir : (dirs : List (List (List ℕ))) (path : List (List ℕ)) (d k : ℕ) → AllPairs (λ a b. a ≢ b) dirs → position (λ dir. same_path dir path) dirs ≡ Some d → k < length dirs
-    → same_path (get_or dirs k []) path ≡ (k == d)
-one_dir dirs path d k once found there =
-    let at = position-Some (λ dir. same_path dir path) dirs d [] found in
-    elim (cases_eq k d) [
-      | inl same ↦ let equal : (k == d) ≡ true = grind (arith, nat_tests) in ap (λ (n : ℕ). same_path (get_or dirs n []) path) same ∙ at.1 ∙ sym equal
-      | inr apart ↦
-          let other : (k == d) ≡ false = grind (arith, nat_tests) in
-          elim (cases_Bool (same_path (get_or dirs k []) path)) [
-            | inr apart ↦ apart ∙ sym other
-            | inl same ↦
-                let equal : get_or dirs k [] ≡ get_or dirs d [] = same_paths (get_or dirs k []) path same ∙ sym (same_paths (get_or dirs d []) path at.1) in
-                elim (cases_lt k d) [
-                  | inl less ↦ absurd (once k d [] less at.0 equal)
-                  | inr more ↦ absurd (once d k [] (omega arith) there (sym equal))
-                ]
-          ]
-    ]
-
--- a path is the root, or has a parent and a last component
-split_cases : (path : List (List ℕ)) → (path ≡ []) ⊎ ((front : List (List ℕ)) × (last : List ℕ) × (path ≡ front ++ last ∷ []) × (split_last path ≡ Some (front, last)))
-split_cases [] = inl refl
-split_cases (x ∷ xs) = elim (split_cases xs) [
-  | inl root ↦ inr ([], x, ap (λ (r : List (List ℕ)). x ∷ r) root, ap (λ (r : List (List ℕ)). put_front x (split_last r)) root)
-  | inr more ↦ inr (x ∷ more.0, more.1, ap (λ (r : List (List ℕ)). x ∷ r) more.2, ap (put_front x) more.3)
-]
-
-abbrev whole_test : Files → List (List ℕ) → SlotName → Bool
-whole_test s path slot = same_path (slot_path s.dirs slot) path
-
-dir_of : (s : Files) (slot : SlotName) (front : List (List ℕ)) → same_path (unwrap_or (slice_get s.dirs slot.dir) []) front ≡ same_path (get_or s.dirs slot.dir []) front
-dir_of s slot front = ap (λ (d : List (List ℕ)). same_path d front) (unwrap_or-slice_get s.dirs slot.dir [])
-
-named_slot : (s : Files) (front : List (List ℕ)) (last : List ℕ) (o : Option ℕ) → IsConsistent s → dir_number s front ≡ o
-    → position (whole_test s (front ++ last ∷ [])) s.slots ≡ option_and_then (entry_number s.slots) (option_map (λ dir. record { dir = dir; name = last }) o)
-named_slot s front last None whole is =
-    found_nowhere (whole_test s (front ++ last ∷ [])) s.slots
-    (All-weaker (λ slot. slot.dir < length s.dirs) (λ slot. whole_test s (front ++ last ∷ []) slot ≡ false)
-    (λ slot there. same_path-ends (unwrap_or (slice_get s.dirs slot.dir) []) slot.name front last ∙ ap (λ (b : Bool). b && bytes_eq slot.name last) (dir_of s slot front ∙ nowhere slot.dir there))
-    s.slots whole.dirs_there)
-  where
-    nowhere : (k : ℕ) → k < length s.dirs → same_path (get_or s.dirs k []) front ≡ false
-    nowhere k there = elim (cases_Bool (same_path (get_or s.dirs k []) front)) [
-      | inl same ↦ absurd (fresh (λ dir. same_path dir front) s.dirs (ap is_some is) k [] there same)
-      | inr apart ↦ apart
-    ]
-named_slot s front last (Some d) whole is =
-    found_alike (whole_test s (front ++ last ∷ [])) (λ slot. same_entry slot (record { dir = d; name = last })) s.slots
-    (All-weaker (λ slot. slot.dir < length s.dirs) (λ slot. whole_test s (front ++ last ∷ []) slot ≡ same_entry slot (record { dir = d; name = last }))
-    (λ slot there. same_path-ends (unwrap_or (slice_get s.dirs slot.dir) []) slot.name front last
-    ∙ ap (λ (b : Bool). b && bytes_eq slot.name last) (dir_of s slot front ∙ one_dir s.dirs front d slot.dir whole.dirs_once is there))
-    s.slots whole.dirs_there)
-
--- the slot of a path among the files is the one that has the path
-pub one_slot : (s : Files) (path : List (List ℕ)) → IsConsistent s → position (λ slot. same_path (slot_path s.dirs slot) path) s.slots ≡ slot_of s path
-one_slot s path whole = elim (split_cases path) [
-  | inl root ↦
-      let none : position (whole_test s []) s.slots ≡ None =
-      found_nowhere (whole_test s []) s.slots (All-weaker (λ slot. slot.dir < length s.dirs) (λ slot. whole_test s [] slot ≡ false)
-      (λ slot there. longer_than_root (unwrap_or (slice_get s.dirs slot.dir) []) slot.name) s.slots whole.dirs_there) in
-      ap (λ (p : List (List ℕ)). position (whole_test s p) s.slots) root ∙ none ∙ ap (slot_of s) (sym root)
-  | inr named ↦
-      ap (λ (p : List (List ℕ)). position (whole_test s p) s.slots) named.2
-      ∙ named_slot s named.0 named.1 (dir_number s named.0) whole refl
-      ∙ ap (λ (o : Option (List (List ℕ) × List ℕ)). option_and_then (entry_number s.slots) (named_in s o)) (sym named.3)
-]
+use Rattle.call_events.proofs.Whole.{found_more, get_more}
 
 abbrev held_at : List (Option ℕ) → Option ℕ → Option ℕ
 held_at held slot = option_and_then (λ h. h) (item_at held slot)

@@ -8,7 +8,8 @@ use Rattle.std.proofs.lemmas.Bool.Decides.{nat_tests}
 use Rattle.fer_events.specs.declared.tables.AttrValue.{AttrValue}
 use Rattle.fer_events.specs.States.{value_set, at_place}
 use Rattle.call_events.specs.Changes.{with_value, value_place}
-use Rattle.call_events.proofs.Whole.{passes_within, place_is}
+use Rattle.fer_events.proofs.GeneralPlaces.{passes_within}
+use Rattle.call_events.proofs.Whole.{place_is}
 use Rattle.call_events.proofs.Frames.{range_place}
 
 abbrev is_of : ℕ → ℕ → AttrValue → Bool

@@ -17,7 +17,8 @@ use Rattle.fer_events.proofs.AtPlace.{length-at_place, nothing_at_place}
 use Rattle.call_events.specs.declared.files.Files.{Files}
 use Rattle.call_events.specs.declared.making.Sizes.{Sizes}
 use Rattle.call_events.specs.declared.making.Stamp.{Stamp}
-use Rattle.call_events.specs.Found.{entry_of, entry_number, same_entry, slot_of, file_of, size_of}
+use Rattle.fer_events.specs.Paths.{entry_number, same_entry}
+use Rattle.call_events.specs.Found.{entry_of, slot_of, file_of, size_of}
 use Rattle.call_events.specs.Changes.{noted, with_entry, with_slot, with_names, resized, overwritten, with_text, with_size, with_file, with_attr, are_one, changed, files_after}
 use Rattle.call_events.specs.CallEvents.{text_events, rename_events, events_of}
 use Rattle.call_events.specs.Small.{IsSmall, CanTake}

@@ -19,7 +19,8 @@ use Rattle.call_events.specs.declared.files.Progress.{Progress}
 use Rattle.call_events.specs.declared.making.Sizes.{Sizes}
 use Rattle.call_events.specs.declared.making.Stamp.{Stamp}
 use Rattle.call_events.specs.Cutting.{Piece, cut_up}
-use Rattle.call_events.specs.Found.{is_dir, entry_of, entry_number, file_of, size_of}
+use Rattle.fer_events.specs.Paths.{entry_number}
+use Rattle.call_events.specs.Found.{is_dir, entry_of, file_of, size_of}
 use Rattle.call_events.specs.Refusals.{refusal}
 use Rattle.call_events.specs.Changes.{with_entry, with_names, files_after, are_one}
 use Rattle.call_events.specs.CallEvents.{next_stamp, piece_event, piece_events, events_of}

@@ -13,10 +13,13 @@ use Rattle.litmus_syntax.specs.declared.call.Call.TheVariants.{Mkdir, Create, Wr
 use Rattle.fer_events.specs.declared.tables.SlotName.{SlotName}
 use Rattle.fer_events.specs.declared.tables.AttrValue.{AttrValue}
 use Rattle.fer_events.specs.States.{at_place}
-use Rattle.fer_events.specs.Truth.{same_path, text_number}
+use Rattle.fer_events.specs.Paths.{same_path}
+use Rattle.fer_events.specs.Truth.{text_number}
 use Rattle.fer_events.proofs.AtPlace.{length-at_place}
+use Rattle.fer_events.proofs.GeneralPlaces.{fresh}
 use Rattle.call_events.specs.declared.files.Files.{Files}
-use Rattle.call_events.specs.Found.{dir_number, is_dir, entry_of, entry_number, same_entry, slot_of, file_of, size_of, named_in, split_last, no_files}
+use Rattle.fer_events.specs.Paths.{entry_number, same_entry, name_in, split_last}
+use Rattle.call_events.specs.Found.{dir_number, is_dir, entry_of, slot_of, file_of, size_of, no_files}
 use Rattle.call_events.specs.Refusals.{refusal}
 use Rattle.call_events.specs.declared.call_kind.CallKind.TheVariants.{NameTaken}
 use Rattle.call_events.specs.Changes.{noted, with_entry, with_slot, with_new_file, with_names, resized, overwritten, with_file, with_value, value_place, with_attr, are_one, changed, files_after}
@@ -35,21 +38,6 @@ same_path-refl (x ∷ xs) = and_from (bytes_eq x x) (same_path xs xs) (bytes_eq-
 
 pub same_entry-refl : (e : SlotName) → same_entry e e ≡ true
 same_entry-refl e = and_from (e.dir == e.dir) (bytes_eq e.name e.name) (grind (arith, nat_tests)) (bytes_eq-refl e.name)
-
--- an item that passes is found
-pub passes_within : {X : Type 0} (p : X → Bool) (xs : List X) (k : ℕ) (d : X) → k < length xs → p (get_or xs k d) ≡ true → position_or_len p xs < length xs
-passes_within p [] k d there h = absurd (omega arith)
-passes_within p (x ∷ xs) zero d there h = rw h (omega arith)
-passes_within p (x ∷ xs) (suc k) d there h = elim (cases_Bool (p x)) [
-  | inl e ↦ rw e (omega arith)
-  | inr e ↦ rw e (omega (arith, passes_within p xs k d (omega arith) h))
-]
-
--- an item that passes isn't there where none is found
-pub fresh : {X : Type 0} (p : X → Bool) (xs : List X) → is_some (position p xs) ≡ false → (k : ℕ) (d : X) → k < length xs → p (get_or xs k d) ≡ true → ⊥
-fresh p xs none k d there h =
-    let found : position p xs ≡ Some (position_or_len p xs) = cond-true (ltb (position_or_len p xs) (length xs)) _ _ (lt-ltb _ _ (passes_within p xs k d there h)) in
-    true≢false (sym (ap is_some found) ∙ none)
 
 place_more : {X : Type 0} (p : X → Bool) (xs ys : List X) → position_or_len p xs < length xs → position_or_len p (xs ++ ys) ≡ position_or_len p xs
 place_more p [] ys h = absurd (omega arith)
@@ -143,7 +131,7 @@ named_within s (Some d) name e within h =
     let same : d ≡ e.dir = ap (λ (o : Option SlotName). option_map_or (λ n. n.dir) o 0) h in
     omega (arith, within d refl, same)
 
-pub entry_within : (s : Files) (split : Option (List (List ℕ) × List ℕ)) (e : SlotName) → named_in s split ≡ Some e → e.dir < length s.dirs
+pub entry_within : (s : Files) (split : Option (List (List ℕ) × List ℕ)) (e : SlotName) → name_in s.dirs split ≡ Some e → e.dir < length s.dirs
 entry_within s None e h = cc
 entry_within s (Some (parent, name)) e h = named_within s (dir_number s parent) name e (dir_within s parent) h
 

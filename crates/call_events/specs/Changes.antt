@@ -7,7 +7,8 @@ use Rattle.fer_events.specs.declared.tables.AttrValue.{AttrValue}
 use Rattle.fer_events.specs.States.{at_place}
 use Rattle.fer_events.specs.Truth.{text_number, same_file}
 use Rattle.call_events.specs.declared.files.Files.{Files}
-use Rattle.call_events.specs.Found.{entry_of, entry_number, slot_of, file_of, size_of}
+use Rattle.fer_events.specs.Paths.{entry_number}
+use Rattle.call_events.specs.Found.{entry_of, slot_of, file_of, size_of}
 
 -- the table with a text behind it that it hasn't yet
 abbrev pub noted : List (List ℕ) → List ℕ → List (List ℕ)

@@ -9,4 +9,3 @@ pub mod Asking
 pub mod Resolved
 pub mod Runs
 pub mod Meaning
-pub mod Rows

@@ -10,7 +10,8 @@ use Rattle.fer_events.specs.Truth.{text_number}
 use Rattle.call_events.specs.declared.files.Files.{Files}
 use Rattle.call_events.specs.declared.call_kind.CallKind.{CallKind}
 use Rattle.call_events.specs.declared.call_kind.CallKind.TheVariants.{NoSuchFile, NameTaken, NoDirectory, FileTooLong, TooManyEvents, UnknownMark, TooMany}
-use Rattle.call_events.specs.Found.{split_last, is_dir, slot_of, file_of, size_of}
+use Rattle.fer_events.specs.Paths.{split_last}
+use Rattle.call_events.specs.Found.{is_dir, slot_of, file_of, size_of}
 
 -- the number that is printed for a kind
 abbrev pub kind_number : CallKind → ℕ

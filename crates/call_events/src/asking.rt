@@ -10,6 +10,7 @@ use crate::changing::note_slot;
 use crate::files::Files;
 use crate::finding::is_in;
 use crate::refusing::cause;
+use fer_events::MOST_NAMES;
 use litmus_syntax::{Path, Pred};
 use std::alloc::{AllocError, Global};
 
@@ -87,6 +88,6 @@ pub fn ask_question(
 {
     let unknown = cause(has_unknown(files, pred), CallKind::UnknownMark);
     ask(alloc, files, pred)?;
-    let kind = unknown.or(cause(64 < files.slots.len(), CallKind::TooMany));
+    let kind = unknown.or(cause(MOST_NAMES < files.slots.len(), CallKind::TooMany));
     Ok(kind)
 }

@@ -1,23 +1,14 @@
-ghost use Rattle.std.specs.Prelude.{◌≡◌, ◌<◌, ◌≤◌, ◌^◌, Bool, is_some, length, option_map, position, IfSome, unwrap_or};
+ghost use Rattle.std.specs.Prelude.{◌≡◌, ◌<◌, ◌≤◌, ◌^◌, Bool, is_some, length, option_map, IfSome};
 ghost use Rattle.std.specs.Option.{ForSome};
-ghost use Rattle.fer_events.specs.Truth.{text_number, same_path};
-ghost use Rattle.call_events.specs.Found.{split_last, dir_number, is_dir, entry_of, entry_number, slot_of, file_of, content_of};
+ghost use Rattle.fer_events.specs.Truth.{text_number};
+ghost use Rattle.fer_events.specs.Paths.{directory_number, entry_number};
+ghost use Rattle.call_events.specs.Found.{dir_number, is_dir, entry_of, slot_of, file_of, content_of};
 ghost use Rattle.call_events.specs.Small.{IsSmall};
 
 use crate::files::Files;
+use fer_events::parent_and_name;
 use litmus_syntax::{Path, Text};
 use name_tables::{Numbered, SlotTable};
-
-#[tactic(auto, using(crate::proofs::Splitting::split_at_last))]
-/// A path as its parent and its last component; None where it is the root.
-pub fn parts(path: &[Text]) -> Option<(&[Text], &Text)>
-    ensures { option_map (λ p. (p.0.now, p.1.now)) result ≡ split_last path.now }
-{
-    match path.split_last() {
-        None => None,
-        Some((name, parent)) => Some((parent, name)),
-    }
-}
 
 /// A place of a table as a number.
 fn number_of(place: Option<usize>) -> Option<u32>
@@ -55,7 +46,7 @@ pub fn is_in(table: &Numbered<u8>, text: &Text) -> bool
 
 /// The place of a directory's path.
 fn dir_place(dirs: &Numbered<Text>, path: &[Text]) -> Option<usize>
-    ensures place { result ≡ position (λ dir. same_path dir path.now) dirs.now }
+    ensures place { result ≡ directory_number dirs.now path.now }
     ensures within { IfSome result (λ p. p < length dirs.now) }
 {
     dirs.number_of(path)
@@ -90,7 +81,7 @@ impl Files {
         requires { length self.now.dirs ≤ 16 }
         ensures { option_map (λ p. record { dir = p.0; name = p.1.now }) result ≡ entry_of self.now path.now }
     {
-        let (parent, name) = parts(path.as_slice())?;
+        let (parent, name) = parent_and_name(path.as_slice())?;
         let dir = self.dir_number(parent)?;
         Some((dir, name))
     }

@@ -22,6 +22,3 @@ mod running;
 pub use call_kind::{CallFault, CallKind};
 pub use laws::{inserted_first, one_meaning, one_outcome, same_tests_alike, upgraded_alike};
 pub use resolving::resolve;
-
-#[cfg(test)]
-mod tests;

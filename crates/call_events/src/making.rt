@@ -9,13 +9,10 @@ ghost use Rattle.call_events.specs.Small.{IsSmall, CanTake, IsCutting};
 
 use crate::files::Files;
 use crate::finding::number_in;
-use fer_events::{Effect, Event, Kind};
+use fer_events::{Effect, Event, Kind, MOST_EVENTS_BUT_SYNCS};
 use fer_list::Seq;
 use litmus_syntax::{Call, Path, Text};
 use std::alloc::{AllocError, Global};
-
-/// One more event than a body may have that aren't syncs: no more of a call are made.
-const ENOUGH: usize = 65;
 
 /// The sizes of blocks and of sectors, in bytes. Writes are cut at the multiples of both.
 #[derive(Clone, Copy, Debug)]
@@ -202,7 +199,8 @@ fn text_events(
     let mut stamp = stamp;
     let mut at = at;
     let mut rest = text;
-    for _place in 0..ENOUGH {
+    // One event more than there may be is enough: the call is refused for it.
+    for _place in 0..MOST_EVENTS_BUT_SYNCS + 1 {
         if rest.is_empty() {
             return Ok(events);
         }

@@ -1,16 +1,17 @@
 ghost use Rattle.std.specs.Prelude.{◌≡◌, ◌≤◌, ◌+◌, ◌<◌, ◌^◌, length};
-ghost use Rattle.call_events.specs.Found.{split_last, file_of, size_of};
+ghost use Rattle.fer_events.specs.Paths.{split_last};
+ghost use Rattle.call_events.specs.Found.{file_of, size_of};
 ghost use Rattle.call_events.specs.Refusals.{kind_if, first_of, no_file, lacks_parent, no_parent, no_dir, taken, taken_by_dir, too_long, dirs_full, files_full, names_full, keys_full, refusal, is_sync, too_many};
 ghost use Rattle.call_events.specs.Small.{IsSmall};
 
 use crate::call_kind::CallKind;
 use crate::files::Files;
-use crate::finding::{is_in, parts};
-use fer_events::{Event, Kind};
-use litmus_syntax::{Call, Path, Text};
-
-/// The most bytes of a file.
-const MOST_BYTES: usize = 65536;
+use crate::finding::is_in;
+use fer_events::{
+    Event, Kind, MOST_DIRECTORIES, MOST_EVENTS, MOST_EVENTS_BUT_SYNCS, MOST_FILES, MOST_KEYS,
+    MOST_NAMES, parent_and_name,
+};
+use litmus_syntax::{Call, MOST_FILE_BYTES, Path, Text};
 
 /// The kind where the test holds.
 pub fn cause(test: bool, kind: CallKind) -> Option<CallKind>
@@ -31,7 +32,7 @@ fn no_file(files: &Files, path: &Path) -> Option<CallKind>
 fn lacks_parent(files: &Files, path: &Path) -> bool
     ensures { result ≡ lacks_parent files.now (split_last path.now) }
 {
-    match parts(path.as_slice()) {
+    match parent_and_name(path.as_slice()) {
         None => false,
         Some((parent, _)) => !files.is_dir(parent),
     }
@@ -71,7 +72,7 @@ fn taken_by_dir(files: &Files, path: &Path) -> Option<CallKind>
 fn too_long(end: usize) -> Option<CallKind>
     ensures { result ≡ too_long end }
 {
-    cause(MOST_BYTES < end, CallKind::FileTooLong)
+    cause(MOST_FILE_BYTES < end, CallKind::FileTooLong)
 }
 
 /// A text behind this many bytes would make a file too long.
@@ -79,7 +80,7 @@ fn too_long_behind(at: usize, text: &Text) -> Option<CallKind>
     requires { at < 2 ^ 32 }
     ensures { result ≡ too_long (at + length text.now) }
 {
-    let test = MOST_BYTES < at || MOST_BYTES - at < text.len();
+    let test = MOST_FILE_BYTES < at || MOST_FILE_BYTES - at < text.len();
     cause(test, CallKind::FileTooLong)
 }
 
@@ -87,14 +88,14 @@ fn too_long_behind(at: usize, text: &Text) -> Option<CallKind>
 fn dirs_full(files: &Files) -> Option<CallKind>
     ensures { result ≡ dirs_full files.now }
 {
-    cause(16 <= files.dirs.len(), CallKind::TooMany)
+    cause(MOST_DIRECTORIES <= files.dirs.len(), CallKind::TooMany)
 }
 
 /// There is no room for another file.
 fn files_full(files: &Files) -> Option<CallKind>
     ensures { result ≡ files_full files.now }
 {
-    cause(32 <= files.contents.len(), CallKind::TooMany)
+    cause(MOST_FILES <= files.contents.len(), CallKind::TooMany)
 }
 
 /// The path is a new name, and there is no room for it.
@@ -102,7 +103,7 @@ fn names_full(files: &Files, path: &Path) -> Option<CallKind>
     requires { IsSmall files.now }
     ensures { result ≡ names_full files.now path.now }
 {
-    let test = files.slot_of(path).is_none() && 64 <= files.slots.len();
+    let test = files.slot_of(path).is_none() && MOST_NAMES <= files.slots.len();
     cause(test, CallKind::TooMany)
 }
 
@@ -110,7 +111,7 @@ fn names_full(files: &Files, path: &Path) -> Option<CallKind>
 fn keys_full(files: &Files, key: &Text) -> Option<CallKind>
     ensures { result ≡ keys_full files.now key.now }
 {
-    let test = !is_in(&files.keys, key) && 16 <= files.keys.len();
+    let test = !is_in(&files.keys, key) && MOST_KEYS <= files.keys.len();
     cause(test, CallKind::TooMany)
 }
 
@@ -182,5 +183,5 @@ pub fn too_many(events: &[Event]) -> bool
     ensures { result ≡ too_many events.now }
 {
     let others = events.iter().filter(|event| !is_sync(event)).count();
-    64 < others || 128 < events.len()
+    MOST_EVENTS_BUT_SYNCS < others || MOST_EVENTS < events.len()
 }

@@ -9,7 +9,7 @@ use Rattle.text_scan.specs.Forms.{is_component}
 use Rattle.litmus_syntax.specs.Forms.{is_formed_path}
 use Rattle.fer_events.specs.declared.tables.SlotName.{SlotName}
 use Rattle.fer_events.specs.Tables.{Trace, IsTrace}
-use Rattle.fer_events.specs.Truth.{slot_path}
+use Rattle.fer_events.specs.Paths.{slot_path}
 
 -- a component more makes a longer path
 longer_formed : (path : List (List ℕ)) (name : List ℕ) → IsTrue (is_formed_path path) → IsTrue (is_component name) → IsTrue (is_formed_path (path ++ name ∷ []))

@@ -5,3 +5,6 @@ pub mod Ranges
 pub mod AtPlace
 pub mod OneOrder
 pub mod Formed
+pub mod Splitting
+pub mod GeneralPlaces
+pub mod PathSlots

@@ -1,7 +1,7 @@
 -- General lemmas on paths, as lists of components that are compared one by one.
 use Rattle.std.proofs.Common.{bytes_eq, ◌≡◌, ℕ, Bool, true, false, ◌&&◌, List, [], ◌∷◌, ◌++◌, refl, ◌∙◌, ap}
 use Rattle.std.proofs.lemmas.Bool.{and_right}
-use Rattle.fer_events.specs.Truth.{same_path}
+use Rattle.fer_events.specs.Paths.{same_path}
 
 -- a path with a last component isn't the root
 pub longer_than_root : (xs : List (List ℕ)) (y : List ℕ) → same_path (xs ++ y ∷ []) [] ≡ false

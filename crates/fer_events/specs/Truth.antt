@@ -1,24 +1,16 @@
 -- The truth of a predicate in a state.
 use Rattle.std.specs.Prelude.{ℕ, ◌+◌, Bool, true, false, not, ◌&&◌, ◌||◌, ◌==◌, nat_le, List, [], ◌∷◌, ◌++◌, length, take, drop, bytes_eq, Option, Some, is_some, slice_get, position, unwrap_or, option_and_then}
 use Rattle.std.specs.Option.{option_map_or}
-use Rattle.std.specs.Cmp.Lexicographic.{pointwise}
 use Rattle.litmus_syntax.specs.declared.pred.Pred.{Pred, fold-Pred}
 use Rattle.litmus_syntax.specs.declared.pred.Pred.TheOpen.{Pred-F}
 use Rattle.litmus_syntax.specs.declared.pred.Pred.TheOpen as atom
-use Rattle.fer_events.specs.declared.tables.SlotName.{SlotName}
+use Rattle.fer_events.specs.Paths.{path_slot}
 use Rattle.fer_events.specs.Tables.{Trace}
 use Rattle.fer_events.specs.States.{State}
 
-abbrev pub same_path : List (List ℕ) → List (List ℕ) → Bool
-same_path = pointwise bytes_eq
-
--- the path that a slot names
-abbrev pub slot_path : List (List (List ℕ)) → SlotName → List (List ℕ)
-slot_path dirs slot = unwrap_or (slice_get dirs slot.dir) [] ++ slot.name ∷ []
-
--- the slot of a path
+-- the slot of a path among those of the trace
 abbrev pub slot_number : Trace → List (List ℕ) → Option ℕ
-slot_number t path = position (λ slot. same_path (slot_path t.dirs slot) path) t.slots
+slot_number t path = path_slot t.dirs t.slots path
 
 -- the number of an attribute's key, and of a mark's word
 abbrev pub text_number : List (List ℕ) → List ℕ → Option ℕ

@@ -7,12 +7,20 @@
 
 mod event;
 mod laws;
+mod limits;
 mod pairs;
+mod paths;
 mod tables;
 
 pub use event::{Crash, Effect, Event, Kind};
-pub use laws::{all_pairs_keep_program_order, pairs_are_found, syncs_are_formed};
+pub use laws::{
+    all_pairs_keep_program_order, pairs_are_found, paths_have_their_slots, syncs_are_formed,
+};
+pub use limits::{
+    MOST_DIRECTORIES, MOST_EVENTS, MOST_EVENTS_BUT_SYNCS, MOST_FILES, MOST_KEYS, MOST_NAMES,
+};
 pub use pairs::Pairs;
+pub use paths::parent_and_name;
 pub use tables::{AttrValue, Events, SlotName, Start};
 
 #[cfg(test)]

@@ -1,10 +1,8 @@
 ghost use Rattle.std.specs.Prelude.{◌≡◌, ℕ, ◌<◌, ◌≤◌, ◌&&◌, ◌||◌, ◌==◌, []};
 ghost use Rattle.fer_events.specs.Pairs.{has_pair, IsListed};
 
+use crate::limits::MOST_EVENTS;
 use std::marker::Model;
-
-/// The most events that there are.
-const MOST_EVENTS: usize = 128;
 
 /// Pairs of events (a, b) such that a has to reach the disk before b. Events are numbered from 1 to `n`. It takes no
 /// memory: a row of bits for each a.

@@ -1,9 +1,10 @@
-ghost use Rattle.std.specs.Prelude.{◌≡◌, ◌<◌, ◌^◌, [], length, position, slice_get, unwrap_or, IfSome};
+ghost use Rattle.std.specs.Prelude.{◌≡◌, ◌<◌, ◌^◌, [], length, IfSome};
 ghost use Rattle.std.specs.Option.{ForSome};
 ghost use Rattle.fer_events.specs.Tables.{IsTrace};
-ghost use Rattle.fer_events.specs.Truth.{slot_number, text_number, slot_path, same_path};
+ghost use Rattle.fer_events.specs.Truth.{slot_number, text_number};
 
 use crate::event::Event;
+use crate::paths::{directory_place, entry_place, parent_and_name};
 use fer_list::Seq;
 use litmus_syntax::{Path, Text};
 use std::marker::Model;
@@ -171,7 +172,9 @@ impl Events {
     pub fn slot_of(&self, path: &Path) -> Option<u32>
         ensures { result ≡ slot_number self.now path.now }
     {
-        number_of(slot_place(self.dirs.as_slice(), self.slots.as_slice(), path))
+        let (parent, name) = parent_and_name(path.as_slice())?;
+        let dir = directory_place(self.dirs.as_slice(), parent)?;
+        number_of(entry_place(self.slots.as_slice(), dir, name))
     }
 
     /// The number of the attribute key; None exactly where no key is that text.
@@ -206,32 +209,4 @@ fn text_place(table: &[Text], text: &[u8]) -> Option<usize>
     ensures within { IfSome result (λ p. p < length table.now) }
 {
     table.iter().position(|entry| entry.as_slice() == text)
-}
-
-/// The place of the slot that the path names.
-fn slot_place(dirs: &[Path], slots: &[SlotName], path: &Path) -> Option<usize>
-    ensures place { result ≡ position (λ slot. same_path (slot_path dirs.now slot) path.now) slots.now }
-    ensures within { IfSome result (λ p. p < length slots.now) }
-{
-    slots.iter().position(|slot| has_path(dirs, slot, path))
-}
-
-/// Whether the slot's directory and name make up the path.
-fn has_path(dirs: &[Path], slot: &SlotName, path: &Path) -> bool
-    ensures { result ≡ same_path (slot_path dirs.now slot.now) path.now }
-{
-    match path.as_slice().split_last() {
-        None => false,
-        Some((name, parent)) => is_dir(dirs, slot.dir, parent) && slot.name == *name,
-    }
-}
-
-/// Whether the directory of this number has the path.
-fn is_dir(dirs: &[Path], dir: u32, path: &[Text]) -> bool
-    ensures { result ≡ same_path (unwrap_or (slice_get dirs.now dir) []) path.now }
-{
-    match dirs.get(dir as usize) {
-        None => path.is_empty(),
-        Some(found) => found.as_slice() == path,
-    }
 }

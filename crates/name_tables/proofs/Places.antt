@@ -7,6 +7,7 @@ use Rattle.std.specs.List.{position_or_len, list_any}
 use Rattle.std.proofs.lemmas.List.{length-map, map-append}
 use Rattle.std.proofs.lemmas.List.Elements.{All-head, All-tail}
 use Rattle.std.proofs.lemmas.Bool.Decides.{nat_tests}
+use Rattle.fer_events.proofs.GeneralPlaces.{found_alike}
 
 place_map : {X Y : Type 0} (f : X → Y) (p : Y → Bool) (xs : List X) → position_or_len p (map f xs) ≡ position_or_len (λ x. p (f x)) xs
 place_map f p [] = refl
@@ -19,30 +20,6 @@ position_map f p xs = ap₂ (λ (n m : ℕ). cond (nat_lt n m) (Some n) None) (p
 pub any_map : {X Y : Type 0} (f : X → Y) (p : Y → Bool) (xs : List X) → list_any p (map f xs) ≡ list_any (λ x. p (f x)) xs
 any_map f p [] = refl
 any_map f p (x ∷ xs) = ap (λ (b : Bool). p (f x) || b) (any_map f p xs)
-
--- two tests that agree on each item find the same place
-place_alike : {X : Type 0} (p q : X → Bool) (xs : List X) → All (λ x. p x ≡ q x) xs → position_or_len p xs ≡ position_or_len q xs
-place_alike p q [] all = refl
-place_alike p q (x ∷ xs) all =
-    ap (λ (t : Bool). cond (not t) (1 + position_or_len p xs) 0) (All-head (λ x. p x ≡ q x) x xs all)
-    ∙ ap (λ (n : ℕ). cond (not (q x)) (1 + n) 0) (place_alike p q xs (All-tail (λ x. p x ≡ q x) x xs all))
-
-pub found_alike : {X : Type 0} (p q : X → Bool) (xs : List X) → All (λ x. p x ≡ q x) xs → position p xs ≡ position q xs
-found_alike p q xs all = ap (λ (n : ℕ). cond (nat_lt n (length xs)) (Some n) None) (place_alike p q xs all)
-
-place_nowhere : {X : Type 0} (xs : List X) → position_or_len (λ x. false) xs ≡ length xs
-place_nowhere [] = refl
-place_nowhere (x ∷ xs) = omega (arith, place_nowhere xs)
-
--- a test that no item passes finds nothing
-pub found_nowhere : {X : Type 0} (p : X → Bool) (xs : List X) → All (λ x. p x ≡ false) xs → position p xs ≡ None
-found_nowhere p xs none =
-    found_alike p (λ x. false) xs none
-    ∙ ap (λ (n : ℕ). cond (nat_lt n (length xs)) (Some n) None) (place_nowhere xs)
-    ∙ ap (λ (t : Bool). cond t (Some (length xs)) None) (never (length xs))
-  where
-    never : (n : ℕ) → nat_lt n n ≡ false
-    never n = grind (arith, nat_tests)
 
 -- an item is found exactly where some item passes
 one_less : (n m : ℕ) → nat_lt (1 + n) (suc m) ≡ nat_lt n m

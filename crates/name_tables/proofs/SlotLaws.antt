@@ -14,9 +14,10 @@ use Rattle.std.proofs.lemmas.List.{get_or_append_left}
 use Rattle.std.proofs.lemmas.List.Folds.{prefix_len-append, list_any-append}
 use Rattle.std.proofs.lemmas.Grind.{common_steps}
 use Rattle.fer_events.specs.declared.tables.SlotName.{SlotName}
-use Rattle.name_tables.specs.Slots.{same_entry, entry_number}
+use Rattle.fer_events.specs.Paths.{same_entry, entry_number}
 use Rattle.name_tables.specs.Parts.{slot_named, IsOwn}
-use Rattle.name_tables.proofs.Places.{position_map, any_map, map_if, found_alike, found_nowhere, found_any, turned}
+use Rattle.name_tables.proofs.Places.{position_map, any_map, map_if, found_any, turned}
+use Rattle.fer_events.proofs.GeneralPlaces.{found_alike, found_nowhere}
 
 -- a name is found whichever side of the test it stands on
 pub turned_name : (names : List (List ℕ)) (name : List ℕ) → position (λ e. pointwise nat_eq e name) names ≡ position (λ e. pointwise nat_eq name e) names

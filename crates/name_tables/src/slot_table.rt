@@ -1,5 +1,5 @@
 ghost use Rattle.std.specs.Prelude.{◌≡◌, ◌<◌, ◌++◌, ◌∷◌, [], length, Some, slice_get, is_some, if◌then◌else◌, OnOk, OnErr, IfSome};
-ghost use Rattle.name_tables.specs.Slots.{entry_number};
+ghost use Rattle.fer_events.specs.Paths.{entry_number};
 
 use crate::numbered::Numbered;
 use indexmap::IndexSet;

@@ -9,7 +9,8 @@ use Rattle.fer_events.specs.declared.event.Kind.TheVariants as kind
 use Rattle.fer_events.specs.declared.event.Effect.{Effect}
 use Rattle.fer_events.specs.declared.event.Effect.TheVariants.{Bytes, Grow, Cut, SetAttr, PutName, ClearName, See, Nothing}
 use Rattle.fer_events.specs.Tables.{Trace}
-use Rattle.fer_events.specs.Truth.{slot_path, item_at}
+use Rattle.fer_events.specs.Paths.{slot_path}
+use Rattle.fer_events.specs.Truth.{item_at}
 
 abbrev pub kind_word : Kind → List ℕ
 kind_word kind.Write = codes "write"

@@ -1,7 +1,8 @@
 ghost use Rattle.std.specs.Prelude.{◌≡◌, ◌<◌, ◌≤◌, ◌++◌, ◌∷◌, [], None, Some, length, OnOk, codes, decimal, filter, slice_get, unwrap_or, MatchOption};
 ghost use Rattle.std.specs.List.{flat_map};
 ghost use Rattle.litmus_syntax.specs.Texts.{path_text};
-ghost use Rattle.fer_events.specs.Truth.{slot_path, item_at};
+ghost use Rattle.fer_events.specs.Paths.{slot_path};
+ghost use Rattle.fer_events.specs.Truth.{item_at};
 ghost use Rattle.report.specs.EventTable.{kind_word, field, number_field, field_if, path_of, effect_fields, fields, event_line, event_lines, keep_line};
 ghost use Rattle.report.specs.Rows.{is_listed, row_upto};
 

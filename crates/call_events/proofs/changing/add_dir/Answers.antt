@@ -1,6 +1,6 @@
 use Rattle.std.proofs.Common.{◌≡◌, ℕ, Bool, List, [], ◌∷◌, ◌++◌, position, is_some, ◌∙◌, ap}
 use Rattle.std.specs.Prelude.{if◌then◌else◌}
-use Rattle.fer_events.specs.Truth.{same_path}
+use Rattle.fer_events.specs.Paths.{same_path}
 use Rattle.call_events.proofs.changing.add_dir.Goals as goal
 
 pub returns : goal.returns

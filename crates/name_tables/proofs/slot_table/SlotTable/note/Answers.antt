@@ -2,7 +2,7 @@ use Rattle.std.proofs.Common.{◌≡◌, ℕ, List, [], ◌∷◌, ◌++◌, All
 use Rattle.std.specs.Prelude.{if◌then◌else◌}
 use Rattle.std.specs.Cmp.Lexicographic.{pointwise}
 use Rattle.fer_events.specs.declared.tables.SlotName.{SlotName}
-use Rattle.name_tables.specs.Slots.{entry_number}
+use Rattle.fer_events.specs.Paths.{entry_number}
 use Rattle.name_tables.specs.Parts.{slot_named, IsOwn}
 use Rattle.name_tables.proofs.SlotLaws.{with_name, with_name_is, turned_name, with_slot, still_own, still_named, has_number, slots_own, noted_slot}
 use Rattle.name_tables.proofs.slot_table.SlotTable.note.Goals as goal

@@ -1,6 +1,6 @@
 use Rattle.std.proofs.Common.{◌≡◌, List, None, sym, ◌∙◌, ap}
 use Rattle.fer_events.specs.declared.tables.SlotName.{SlotName}
-use Rattle.name_tables.specs.Slots.{entry_number}
+use Rattle.fer_events.specs.Paths.{entry_number}
 use Rattle.name_tables.proofs.SlotLaws.{found_slot, lost_slot, turned_name}
 use Rattle.name_tables.proofs.slot_table.SlotTable.number_of.Goals as goal
 

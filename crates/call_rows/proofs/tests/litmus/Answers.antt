@@ -2,8 +2,8 @@ use Rattle.std.proofs.Common.{◌≡◌, true, replicate, rules, sym, subst}
 use Rattle.litmus_syntax.specs.declared.pred.Pred.TheVariants.{True}
 use Rattle.litmus_syntax.specs.Limits.{IsWithinLimits}
 use Rattle.litmus_syntax.specs.Test.{Test}
-use Rattle.call_events.proofs.RowLimits.{row_test, row_limits}
-use Rattle.call_events.proofs.tests.litmus.Goals as goal
+use Rattle.call_rows.proofs.RowLimits.{row_test, row_limits}
+use Rattle.call_rows.proofs.tests.litmus.Goals as goal
 
 pub new-requires : goal.new-requires
 new-requires c =

@@ -1,8 +1,8 @@
 ghost use Rattle.std.specs.Prelude.{◌≡◌, ◌≤◌, replicate, IfOk};
 ghost use Rattle.litmus_syntax.specs.declared.call.Call.TheVariants.{Sync};
-ghost use Rattle.call_events.specs.Rows.{name_path, setup_steps, body_steps};
+ghost use Rattle.call_rows.specs.Rows.{name_path, setup_steps, body_steps};
 
-use super::*;
+use call_events::{CallFault, CallKind, resolve};
 use fer_events::{Event, Events, Kind};
 use fer_list::Seq;
 use litmus_syntax::{Call, Litmus, Path, Pred, Site, Step, Text};

@@ -1,6 +1,6 @@
 -- Laws of paths that are split at their last component.
 use Rattle.std.proofs.Common.{◌≡◌, List, [], ◌∷◌, ◌++◌, Some, refl, ap}
-use Rattle.call_events.specs.Found.{split_last, put_front}
+use Rattle.fer_events.specs.Paths.{split_last, put_front}
 
 -- a list with a last item is split there
 pub split_at_last : {X : Type 0} (front : List X) (last : X) → split_last (front ++ last ∷ []) ≡ Some (front, last)

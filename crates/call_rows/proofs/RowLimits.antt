@@ -12,7 +12,7 @@ use Rattle.litmus_syntax.specs.Counts.{Counts, counts, counts_of, constant_count
 use Rattle.litmus_syntax.specs.Forms.{is_byte_text, is_formed_call, is_formed_of, is_formed_pred}
 use Rattle.litmus_syntax.specs.Limits.{IsWithinLimits}
 use Rattle.litmus_syntax.specs.Test.{Test}
-use Rattle.call_events.specs.Rows.{name_path, row_step, setup_steps, body_steps}
+use Rattle.call_rows.specs.Rows.{name_path, row_step, setup_steps, body_steps}
 
 bytes_formed : (len : ℕ) → is_byte_text (replicate len 65) ≡ true
 bytes_formed zero = refl
