@@ -10,11 +10,9 @@ use crate::reading::answer_bytes;
 use crate::words::Words;
 use crate::writing::write_whole;
 use fer_outside::{Library, Sink};
+use line_files::MOST_BYTES;
 use report::{Outcome, text};
 use std::alloc::{AllocError, Global};
-
-/// The most bytes of a litmus file.
-const MOST_BYTES: usize = 65536;
 
 /// The status where the words are no command line.
 const USAGE: u8 = 3;

@@ -1,11 +1,10 @@
 -- Calls and the question as a draft takes them.
-use Rattle.std.proofs.Common.{◌≡◌, ◌≢◌, ◌⊎◌, ℕ, ◌+◌, ◌^◌, ◌<◌, ◌≤◌, Bool, true, false, not, ◌&&◌, cond, List, [], ◌∷◌, ◌++◌, length, map, fold, Some, None, IsTrue, if◌then◌else◌, refl, sym, ◌∙◌, ap, subst, inl, inr, append_assoc, length-append, arith}
+use Rattle.std.proofs.Common.{◌≡◌, ◌⊎◌, ℕ, ◌+◌, ◌<◌, ◌≤◌, Bool, true, false, not, ◌&&◌, cond, List, [], ◌∷◌, ◌++◌, length, map, fold, Some, None, IsTrue, if◌then◌else◌, refl, sym, ◌∙◌, ap, subst, inl, inr, append_assoc, length-append, arith}
 use Rattle.std.proofs.lemmas.List.{length-map, map-append}
 use Rattle.std.proofs.lemmas.List.Sums.{fold_push}
-use Rattle.std.specs.List.{All}
 use Rattle.std.proofs.lemmas.List.Elements.{All-push, filter-append, Contains-append_right}
 use Rattle.std.proofs.lemmas.Option.{none-some, same_Some}
-use Rattle.std.proofs.lemmas.Bool.{and_from, and_parts, false≢true}
+use Rattle.std.proofs.lemmas.Bool.{and_from, false≢true}
 use Rattle.litmus_syntax.specs.declared.call.Call.{Call}
 use Rattle.litmus_syntax.specs.declared.call.Step.{Step}
 use Rattle.litmus_syntax.specs.declared.pred.Pred.{Pred}
@@ -25,14 +24,15 @@ use Rattle.litmus_reader.specs.declared.fault.LitmusKind.{LitmusKind}
 use Rattle.litmus_reader.specs.declared.fault.LitmusKind.TheVariants.{NotHere, BadPredicate, TooLong}
 use Rattle.litmus_reader.specs.Calls.{calls_in, body_calls}
 use Rattle.litmus_reader.specs.Stages.{stage_behind}
-use Rattle.litmus_reader.specs.Statements.{Head, Setup, Body, Called, Question, statement_lexemes, call_lexemes}
-use Rattle.litmus_reader.specs.FirstFaults.{IsFirstKind}
-use Rattle.litmus_reader.specs.StatedLines.{Stated, stated_in, statements}
+use Rattle.litmus_reader.specs.Statements.{Setup, Body, Called, Question, statement_lexemes}
+use Rattle.litmus_reader.specs.TakenLines.{IsFirstKind}
+use Rattle.line_files.specs.StatedLines.{stated_in, statements}
+use Rattle.litmus_reader.specs.StatedLines.{Stated}
 use Rattle.litmus_reader.specs.WholeFiles.{stated_step}
 use Rattle.litmus_reader.specs.Drafts.{step_in, StandsAt, IsExpected, IsDraft}
 use Rattle.litmus_reader.specs.TakenLines.{IsTaken}
 use Rattle.litmus_reader.proofs.Fronts.{setup_calls_so_far, body_calls_so_far}
-use Rattle.litmus_reader.proofs.Faulting.{Lacks, sound, ranges, fault_here, fault_long, fault_asks}
+use Rattle.litmus_reader.proofs.Faulting.{Lacks, faultless, ranges, fault_here, fault_long, fault_asks}
 use Rattle.litmus_reader.proofs.Drafting.{has, order, reached_next, version_next, block_next, of_version_next, narrow_next, formed_next}
 
 -- a call stands in the setup or in the body
@@ -144,7 +144,7 @@ setup_call_taken stated d e line c q h x other fits few is =
     let s = Called c in
     let here = subst (λ (p : Stage). StandsAt p stated d) at.0 h.stands in
     subst (λ (y : Draft). IsTaken stated line s y) (sym is) (record {
-      sound = sound before s (has stated d line s q h x) (order stated d line s q h x) (ranges before s x.in_range (λ b. b)) (setup_here stated d c here fits)
+      faultless = faultless before s (has stated d line s q h x) (order stated d line s q h x) (ranges before s x.in_range (λ b. b)) (setup_here stated d c here fits)
           (setup_few stated d c here few) (λ b. b);
       kept = record {
         stands = subst (λ (p : Stage). StandsAt p (stated ++ stated_in line s ∷ []) (record d { stage = q; setup = d.setup ++ step_in line c ∷ [] })) (sym at.1)
@@ -226,7 +226,7 @@ body_call_taken stated d e line c q h x inside fits suit few is =
     let now = if is_sync c then d.changes else d.changes + 1 in
     let behind = open_behind d.in_transaction c in
     subst (λ (y : Draft). IsTaken stated line s y) (sym is) (record {
-      sound = sound before s (has stated d line s q h x) (order stated d line s q h x) (ranges before s x.in_range (λ b. b)) (body_here stated d h here c fits suit)
+      faultless = faultless before s (has stated d line s q h x) (order stated d line s q h x) (ranges before s x.in_range (λ b. b)) (body_here stated d h here c fits suit)
           (body_few stated d h here c few) (λ b. b);
       kept = record {
         stands = subst (λ (p : Stage). StandsAt p (stated ++ stated_in line s ∷ []) (record d { stage = q; body = d.body ++ step_in line c ∷ []; changes = now; in_transaction = behind })) (sym inside)
@@ -312,7 +312,7 @@ question_taken stated d e line want asked pred q h x short is_pred is =
     let a : Asked = record { line = line; want = want; pred = pred } in
     let closed = sym h.opened ∙ not_inside d.in_transaction (x.paired at.0) in
     subst (λ (y : Draft). IsTaken stated line s y) (sym is) (record {
-      sound = sound before s (has stated d line s q h x) (order stated d line s q h x) (ranges before s x.in_range (λ b. b)) (λ b. b) (λ long. long short)
+      faultless = faultless before s (has stated d line s q h x) (order stated d line s q h x) (ranges before s x.in_range (λ b. b)) (λ b. b) (λ long. long short)
           (λ none. none pred is_pred);
       kept = record {
         stands = subst (λ (p : Stage). StandsAt p (stated ++ stated_in line s ∷ []) (record d { stage = q; question = Some a })) (sym at.1)

@@ -1,5 +1,5 @@
--- Each file is a litmus test, or it is refused.
-use Rattle.std.proofs.Common.{◌≡◌, ◌⊎◌, ℕ, ◌+◌, ◌<◌, ◌≤◌, Bool, true, false, List, [], ◌∷◌, ◌++◌, length, map, sum, codes, Option, Some, None, IsTrue, refl, sym, ◌∙◌, ap, subst, inl, inr, append_assoc, append-nil, arith}
+-- Each line of a litmus file states something, or has a fault.
+use Rattle.std.proofs.Common.{◌≡◌, ◌⊎◌, ℕ, true, false, List, [], ◌∷◌, ◌++◌, length, map, sum, codes, Option, Some, None, IsTrue, refl, sym, ◌∙◌, ap, subst, inl, inr, arith}
 use Rattle.std.specs.List.{All}
 use Rattle.std.proofs.lemmas.List.Elements.{All-nil}
 use Rattle.std.proofs.lemmas.Bool.{cases_Bool, cases_lt, true≢false}
@@ -9,33 +9,35 @@ use Rattle.litmus_syntax.specs.CallKinds.{is_sync, is_setup_call, is_body_call}
 use Rattle.litmus_syntax.specs.Transactions.{suits}
 use Rattle.litmus_syntax.specs.Counts.{atom_words}
 use Rattle.litmus_syntax.specs.Test.{Test}
-use Rattle.text_scan.specs.Lines.{lines_of}
 use Rattle.lexeme_reader.specs.declared.reading.Lexeme.{Lexeme}
-use Rattle.lexeme_reader.specs.Lexemes.{is_formed, AreLexemes}
+use Rattle.lexeme_reader.specs.Lexemes.{is_formed}
 use Rattle.predicate_reader.specs.Counts.{IsShort, text_size, word_count, most_open}
-use Rattle.predicate_reader.specs.Predicates.{AreInRange}
 use Rattle.litmus_reader.specs.declared.stages.Stage.{Stage}
-use Rattle.litmus_reader.specs.declared.stages.Stage.TheVariants.{Start, BehindHead, BehindBlock, BehindSector, InSetup, InBody, End}
+use Rattle.litmus_reader.specs.declared.stages.Stage.TheVariants.{Start, InSetup, InBody}
 use Rattle.litmus_reader.specs.declared.draft.Draft.{Draft}
 use Rattle.litmus_reader.specs.declared.draft.Asked.{Asked}
 use Rattle.litmus_reader.specs.declared.fault.LitmusKind.{LitmusKind}
-use Rattle.litmus_reader.specs.declared.fault.LitmusKind.TheVariants.{BadByte, BadToken, BadLine, OutOfOrder, NumberRange, NotHere, BadPredicate, EndsEarly, TooLong}
+use Rattle.litmus_reader.specs.declared.fault.LitmusKind.TheVariants.{BadLine, OutOfOrder, NumberRange, NotHere, BadPredicate, TooLong}
 use Rattle.litmus_reader.specs.Stages.{stage_behind}
 use Rattle.litmus_reader.specs.Statements.{Statement, Head, Block, Sector, Setup, Body, Called, Question, statement_lexemes, form_of}
-use Rattle.litmus_reader.specs.Versions.{version_of, version_has}
-use Rattle.litmus_reader.specs.Faults.{HasWide, pairs, IsSound}
-use Rattle.litmus_reader.specs.FirstFaults.{IsFirstKind, IsLineFault}
-use Rattle.litmus_reader.specs.StatedLines.{Stated, statements}
-use Rattle.litmus_reader.specs.LitmusText.{IsFirstFault, IsLitmusText, IsLitmusRefused}
+use Rattle.litmus_reader.specs.Versions.{version_has}
+use Rattle.litmus_reader.specs.Faults.{HasWide, pairs, HaveFault}
+use Rattle.line_files.specs.StatedLines.{stated_in, statements}
+use Rattle.line_files.specs.FirstFaults.{IsFirst, IsSound}
+use Rattle.line_files.specs.Refusals.{IsUnended}
+use Rattle.line_files.proofs.GeneralReadings.{IsDecided}
+use Rattle.litmus_reader.specs.StatedLines.{Stated}
+use Rattle.litmus_reader.specs.WholeFiles.{IsTest}
+use Rattle.litmus_reader.specs.LitmusText.{kinds, litmus_grammar}
 use Rattle.litmus_reader.specs.Drafts.{IsOfFormed, IsExpected, IsDraft}
-use Rattle.litmus_reader.specs.TakenLines.{IsTaken, IsLineTaken, IsReadTo}
-use Rattle.litmus_reader.proofs.Below.{LineLaws, PredicateLaws}
-use Rattle.litmus_reader.proofs.Leading.{statement_decided, alike_statement, no_statement_blank}
-use Rattle.litmus_reader.proofs.Faulting.{fault_foreign, alike_version, fault_range, wide_or_small}
+use Rattle.litmus_reader.specs.TakenLines.{IsTaken, IsFirstKind}
+use Rattle.litmus_reader.proofs.Below.{PredicateLaws}
+use Rattle.litmus_reader.proofs.Leading.{statement_decided}
+use Rattle.litmus_reader.proofs.Faulting.{fault_foreign, fault_range, wide_or_small}
 use Rattle.litmus_reader.proofs.Drafting.{has_version, in_order, may_not, unpaired_fault, head_taken, block_taken, block_fault, sector_taken, sector_fault, setup_taken, body_taken}
 use Rattle.litmus_reader.proofs.Calling.{call_stage, setup_call_taken, setup_call_fault, body_call_taken, body_call_fault, question_taken, question_fault}
 use Rattle.litmus_reader.proofs.Finishing.{unasked, finished, test_of}
-use Rattle.litmus_reader.proofs.Stating.{read_none, read_one, cut_short}
+use Rattle.litmus_reader.proofs.Saying.{sound_said, first_said, first_none}
 
 -- whether a question is too long is decided
 short_decided : (asked : List Lexeme) → IsShort asked ⊎ (IsShort asked → ⊥)
@@ -140,78 +142,6 @@ module _ (predicates : PredicateLaws) (stated : List Stated) (d : Draft) (line :
     | inl has ↦ led s (stage_behind d.stage (form_of s)) refl formed has
   ]
 
--- the fault of a statement is that of its line
-line_fault_of : (before : List Statement) (line : List ℕ) (s : Statement) (kind : LitmusKind) → AreLexemes line (statement_lexemes s) → IsFirstKind before s kind
-    → ((other : LitmusKind) × IsLineFault before line other)
-line_fault_of before line s BadLine says h = (BadLine, (statement_lexemes s, says, no_statement_blank s, λ t e. sym (alike_version (version_of before) s t (alike_statement s t e)) ∙ h.4))
-line_fault_of before line s BadByte says h = absurd (h.4)
-line_fault_of before line s BadToken says h = absurd (h.4)
-line_fault_of before line s kind says h = (kind, (s, says, h))
-
-module _ (laws : LineLaws) (predicates : PredicateLaws) where
-  -- a line is taken, or it has a fault
-  abbrev LineAnswered : List Stated → ℕ → List ℕ → Type 0
-  LineAnswered stated number line = ((e : Draft) × IsLineTaken stated number line e) ⊎ ((kind : LitmusKind) × IsLineFault (statements stated) line kind)
-
-  said : (stated : List Stated) (d : Draft) (number : ℕ) (line : List ℕ) (tokens : List Lexeme) → IsDraft stated d → AreLexemes line tokens → LineAnswered stated number line
-  said stated d number line [] h are = inl (d, inl (are, h))
-  said stated d number line (l ∷ ls) h are = elim (statement_decided (l ∷ ls)) [
-    | inr none ↦ inr (BadLine, (l ∷ ls, are, (λ e. absurd cc), λ s e. absurd (none s e)))
-    | inl (s, is) ↦
-        let says : AreLexemes line (statement_lexemes s) = subst (λ (ts : List Lexeme). AreLexemes line ts) is are in
-        elim (answered predicates stated d number h s (laws.formed line (statement_lexemes s) says)) [
-          | inl (e, taken) ↦ inl (e, inr (s, says, taken))
-          | inr (kind, fault) ↦ inr (line_fault_of (statements stated) line s kind says fault)
-        ]
-  ]
-
-  line_answered : (stated : List Stated) (d : Draft) (number : ℕ) (line : List ℕ) → IsDraft stated d → LineAnswered stated number line
-  line_answered stated d number line h = elim (laws.some line) [
-    | inl (tokens, are) ↦ said stated d number line tokens h are
-    | inr (inl bad) ↦ inr (BadByte, bad)
-    | inr (inr bad) ↦ inr (BadToken, bad)
-  ]
-
-  -- all lines are taken, or one of them has the first fault
-  module _ (all : List (List ℕ)) where
-    go : (rest before : List (List ℕ)) (d : Draft) → IsReadTo before d → all ≡ before ++ rest
-        → ((e : Draft) × IsReadTo all e) ⊎ ((number : ℕ) × (kind : LitmusKind) × IsFirstFault all number kind)
-    go [] before d h cut = inl (d, subst (λ (ls : List (List ℕ)). IsReadTo ls d) (sym (cut ∙ append-nil before)) h)
-    go (line ∷ rest) before d h cut = elim (line_answered h.stated d (1 + length before) line h.kept) [
-      | inl (e, taken) ↦ go rest (before ++ line ∷ []) e (read_one before line d e (1 + length before) h refl taken) (cut ∙ sym (append_assoc before (line ∷ []) rest))
-      | inr (kind, fault) ↦ inr (
-        length before + 1,
-        kind,
-        record {
-          before = before;
-          line = line;
-          behind = rest;
-          stated = h.stated;
-          cut = cut;
-          counted = refl;
-          read = h.read;
-          sound = h.sound;
-          bad = fault;
-        },
-      )
-    ]
-
-  ended : (bytes : List ℕ) (d : Draft) (o : Option Asked) → length bytes ≤ 65536 → d.question ≡ o → IsReadTo (lines_of bytes) d
-      → ((t : Test) × IsLitmusText bytes t) ⊎ ((number : ℕ) × (kind : LitmusKind) × IsLitmusRefused bytes number kind)
-  ended bytes d None few is h =
-      inr (length (lines_of bytes) + 1, EndsEarly, cut_short bytes d (length (lines_of bytes) + 1) EndsEarly few h (λ stated kept. unasked stated d kept is) refl refl)
-  ended bytes d (Some q) few is h = inl (test_of d q, (few, h.stated, h.read, finished h.stated d q h.kept is))
-
-  pub read_or_refused : (empty : Draft) → IsDraft [] empty → (bytes : List ℕ)
-      → ((t : Test) × IsLitmusText bytes t) ⊎ ((number : ℕ) × (kind : LitmusKind) × IsLitmusRefused bytes number kind)
-  read_or_refused empty kept bytes = elim (cases_lt 65536 (length bytes)) [
-    | inl long ↦ inr (0, TooLong, inl (long, refl, refl))
-    | inr few ↦ elim (go (lines_of bytes) (lines_of bytes) [] empty (read_none empty kept) refl) [
-      | inl (d, h) ↦ ended bytes d d.question few refl h
-      | inr (number, kind, fault) ↦ inr (number, kind, inr (inl (few, fault)))
-    ]
-  ]
-
 -- a draft of which nothing is read yet
 abbrev empty_draft : Draft
 empty_draft = record { stage = Start; name = []; version = 1; block = 4096; sector = 4096; setup = []; body = []; changes = 0; in_transaction = false; question = None }
@@ -237,7 +167,30 @@ empty_kept = record {
   placed = refl;
 }
 
--- a file is one of the two
-pub text_or_refusal : (laws : LineLaws) (predicates : PredicateLaws) (bytes : List ℕ)
-    → ((t : Test) × IsLitmusText bytes t) ⊎ ((number : ℕ) × (kind : LitmusKind) × IsLitmusRefused bytes number kind)
-text_or_refusal laws predicates bytes = read_or_refused laws predicates empty_draft empty_kept bytes
+-- some draft keeps these statements
+abbrev pub AreKept : List Stated → Type 0
+AreKept stated = (d : Draft) × IsDraft stated d
+
+module _ (predicates : PredicateLaws) where
+  next : (stated : List Stated) (number : ℕ) (lexemes : List Lexeme) → AreKept stated → All (λ l. IsTrue (is_formed l)) lexemes
+      → ((s : Statement) × (lexemes ≡ statement_lexemes s) × IsSound litmus_grammar (statements stated) (statement_lexemes s) × AreKept (stated ++ stated_in number s ∷ []))
+      ⊎ ((kind : LitmusKind) × IsFirst (HaveFault (statements stated) lexemes) kinds kind)
+  next stated number lexemes (d, h) formed = elim (statement_decided lexemes) [
+    | inr none ↦ inr (BadLine, first_none (statements stated) lexemes (λ s e. absurd (none s e)))
+    | inl (s, is) ↦ elim (answered predicates stated d number h s (subst (λ (ls : List Lexeme). All (λ l. IsTrue (is_formed l)) ls) is formed)) [
+      | inl (e, taken) ↦ inl (s, is, sound_said (statements stated) s taken.faultless, (e, taken.kept))
+      | inr (kind, first) ↦ inr (kind, first_said (statements stated) lexemes s kind is first)
+    ]
+  ]
+
+  ended : (stated : List Stated) (d : Draft) (o : Option Asked) → d.question ≡ o → IsDraft stated d → ((t : Test) × IsTest stated t) ⊎ IsUnended litmus_grammar stated
+  ended stated d None is h = inr (unasked stated d h is)
+  ended stated d (Some q) is h = inl (test_of d q, finished stated d q h is)
+
+  -- each line of a file is decided, and its end
+  pub decided : IsDecided litmus_grammar IsTest AreKept
+  decided = record {
+    none = (empty_draft, empty_kept);
+    next = λ stated number lexemes kept some formed. next stated number lexemes kept formed;
+    ended = λ stated kept. ended stated kept.0 kept.0.question refl kept.1;
+  }

@@ -1,33 +1,30 @@
 -- A draft that takes one more line keeps one more statement, or the line has a fault.
-use Rattle.std.proofs.Common.{◌≡◌, ◌≢◌, ◌⊎◌, ℕ, ◌+◌, ◌^◌, ◌<◌, ◌≤◌, Bool, true, false, not, ◌&&◌, List, [], ◌∷◌, ◌++◌, length, map, Option, Some, None, IsTrue, refl, sym, ◌∙◌, ap, subst, inl, inr, append_assoc, append-nil, arith}
+use Rattle.std.proofs.Common.{◌≡◌, ◌≢◌, ◌⊎◌, ℕ, ◌<◌, ◌≤◌, Bool, true, false, List, [], ◌∷◌, ◌++◌, map, Option, Some, None, refl, sym, ◌∙◌, ap, subst, inl, inr, append-nil, arith}
 use Rattle.std.specs.List.{All}
-use Rattle.std.proofs.lemmas.List.{map-append}
 use Rattle.std.proofs.lemmas.List.Elements.{All-push, All-nil, All-same}
 use Rattle.std.proofs.lemmas.Option.{none-some, same_Some}
 use Rattle.litmus_syntax.specs.declared.call.Step.{Step}
-use Rattle.litmus_syntax.specs.CallKinds.{is_setup_call, is_body_call, sync_free}
-use Rattle.litmus_syntax.specs.Transactions.{calls_of, is_open, all_suit}
-use Rattle.lexeme_reader.specs.declared.reading.Lexeme.{Lexeme}
-use Rattle.lexeme_reader.specs.Lexemes.{is_formed}
+use Rattle.litmus_syntax.specs.Transactions.{is_open}
 use Rattle.litmus_reader.specs.declared.statements.Form.{Form}
 use Rattle.litmus_reader.specs.declared.statements.Form.TheVariants as form
 use Rattle.litmus_reader.specs.declared.stages.Stage.{Stage}
 use Rattle.litmus_reader.specs.declared.stages.Stage.TheVariants.{Start, BehindHead, BehindBlock, BehindSector, InSetup, InBody, End}
 use Rattle.litmus_reader.specs.declared.draft.Draft.{Draft}
 use Rattle.litmus_reader.specs.declared.fault.LitmusKind.TheVariants.{BadLine, OutOfOrder, NumberRange, NotHere, BadPredicate, TooLong}
-use Rattle.litmus_reader.specs.Calls.{begins_body, body_calls, block_behind, block_of}
+use Rattle.litmus_reader.specs.Calls.{begins_body, block_behind, block_of}
 use Rattle.litmus_reader.specs.Stages.{stage_behind, run}
-use Rattle.litmus_reader.specs.Statements.{Statement, Head, Block, Sector, Setup, Body, Called, Question, statement_lexemes, form_of}
+use Rattle.litmus_reader.specs.Statements.{Statement, Head, Block, Sector, Setup, Body, form_of}
 use Rattle.litmus_reader.specs.Versions.{version_named, version_of, version_has}
 use Rattle.litmus_reader.specs.Faults.{pairs, HasWide}
-use Rattle.litmus_reader.specs.FirstFaults.{IsFirstKind}
-use Rattle.litmus_reader.specs.StatedLines.{Stated, stated_in, statements}
-use Rattle.litmus_reader.specs.WholeFiles.{stated_step, IsFront, IsSetup}
+use Rattle.litmus_reader.specs.TakenLines.{IsFirstKind}
+use Rattle.line_files.specs.StatedLines.{stated_in, statements}
+use Rattle.litmus_reader.specs.StatedLines.{Stated}
+use Rattle.litmus_reader.specs.WholeFiles.{stated_step, IsFront}
 use Rattle.litmus_reader.specs.Drafts.{IsCallless, StandsAt, IsExpected, IsOfFormed, IsDraft}
 use Rattle.litmus_reader.specs.TakenLines.{IsTaken}
 use Rattle.litmus_reader.proofs.Orders.{may_stand, may_not_stand}
 use Rattle.litmus_reader.proofs.Fronts.{forms, reached_more, block_more, headed, version_more, setup_calls_so_far, body_calls_so_far, front_quiet}
-use Rattle.litmus_reader.proofs.Faulting.{Stands, Lacks, sound, known, ordered, ranges, fault_foreign, fault_order, fault_range}
+use Rattle.litmus_reader.proofs.Faulting.{Stands, Lacks, faultless, known, ordered, ranges, fault_order, fault_range}
 
 -- a line that leads to a stage may stand behind the statements of the draft
 pub may : (stated : List Stated) (d : Draft) (s : Statement) (q : Stage) → IsDraft stated d → stage_behind d.stage (form_of s) ≡ Some q
@@ -109,7 +106,7 @@ pub sized_taken : (stated : List Stated) (d : Draft) (line : ℕ) (s : Statement
     → Lacks (statements stated) s NumberRange → Lacks (statements stated) s NotHere → Lacks (statements stated) s TooLong
     → Lacks (statements stated) s BadPredicate → IsTaken stated line s (record d { stage = q; block = block; sector = sector })
 sized_taken stated d line s q block sector h x begun stands is some small few range here long asks = record {
-  sound = sound (statements stated) s (has stated d line s q h x) (order stated d line s q h x) range here long asks;
+  faultless = faultless (statements stated) s (has stated d line s q h x) (order stated d line s q h x) range here long asks;
   kept = record {
     stands = stands;
     reached = reached_next stated d line s q h x;
@@ -155,7 +152,7 @@ head_taken stated d e line name number q h x is =
     sym (ap (λ (st : List Stated). version_of (statements (st ++ stated_in line s ∷ []))) at.0) in
     let P : Stated → Type 0 = λ t. version_has version t.statement ≡ true in
     subst (λ (y : Draft). IsTaken stated line s y) (sym is) (record {
-      sound = sound (statements stated) s (has stated d line s q h x) (order stated d line s q h x) (ranges (statements stated) s x.in_range (λ b. b)) (λ b. b) (λ b. b) (λ b. b);
+      faultless = faultless (statements stated) s (has stated d line s q h x) (order stated d line s q h x) (ranges (statements stated) s x.in_range (λ b. b)) (λ b. b) (λ b. b) (λ b. b);
       kept = record {
         stands = at.1;
         reached = reached_next stated d line s q h x;

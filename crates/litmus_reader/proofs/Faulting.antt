@@ -1,12 +1,11 @@
 -- Which fault of a statement is answered, and when there is none.
-use Rattle.std.proofs.Common.{◌≡◌, ◌⊎◌, ℕ, zero, suc, ◌<◌, Bool, true, false, List, [], ◌∷◌, map, Some, None, refl, sym, ◌∙◌, ap, subst, inl, inr, arith}
+use Rattle.std.proofs.Common.{◌≡◌, ◌⊎◌, ℕ, zero, suc, Bool, true, List, [], ◌∷◌, map, Some, None, refl, sym, ◌∙◌, ap, subst, inl, inr, arith}
 use Rattle.std.specs.List.{Contains}
 use Rattle.std.proofs.lemmas.Bool.{false≢true}
-use Rattle.std.proofs.lemmas.List.Elements.{All-nil, All-cons, All-weaker}
+use Rattle.std.proofs.lemmas.List.Elements.{All-nil, All-cons}
 use Rattle.litmus_syntax.specs.declared.call.Call.TheVariants as call
 use Rattle.lexeme_reader.specs.declared.reading.Lexeme.{Lexeme}
 use Rattle.lexeme_reader.specs.declared.reading.Lexeme.TheVariants.{Number}
-use Rattle.lexeme_reader.specs.Lexemes.{AreLexemes}
 use Rattle.predicate_reader.specs.Predicates.{AreInRange}
 use Rattle.litmus_reader.specs.declared.fault.LitmusKind.{LitmusKind}
 use Rattle.litmus_reader.specs.declared.fault.LitmusKind.TheVariants.{BadByte, BadToken, BadLine, OutOfOrder, NumberRange, NotHere, BadPredicate, EndsEarly, TooLong}
@@ -16,10 +15,9 @@ use Rattle.litmus_reader.specs.Statements.{Statement, Head, Block, Sector, Setup
 use Rattle.litmus_reader.specs.Calls.{begins_body, body_calls}
 use Rattle.litmus_syntax.specs.Transactions.{is_open}
 use Rattle.litmus_reader.specs.Versions.{version_of, version_has}
-use Rattle.litmus_reader.specs.Faults.{pairs, HasWide, IsBadSize, IsNotHere, IsTooLong, AsksNothing, Has, IsSound}
-use Rattle.litmus_reader.specs.FirstFaults.{IsFirstKind, IsLineFault}
+use Rattle.litmus_reader.specs.Faults.{pairs, HasWide, IsBadSize, IsNotHere, IsTooLong, AsksNothing, Has}
 use Rattle.litmus_reader.specs.Read.{numberless}
-use Rattle.litmus_reader.specs.TakenLines.{IsFaultIn}
+use Rattle.litmus_reader.specs.TakenLines.{IsFaultless, IsFirstKind}
 
 -- it may stand here
 abbrev pub Stands : List Statement → Statement → Type 0
@@ -28,17 +26,17 @@ Stands before s = MayStand (map form_of before) (form_of s)
 abbrev pub Lacks : List Statement → Statement → LitmusKind → Type 0
 Lacks before s kind = Has before s kind → ⊥
 
-pub sound : (before : List Statement) (s : Statement) → Lacks before s BadLine → Lacks before s OutOfOrder → Lacks before s NumberRange
-    → Lacks before s NotHere → Lacks before s TooLong → Lacks before s BadPredicate → IsSound before s
-sound before s known order range here long asks BadByte h = h
-sound before s known order range here long asks BadToken h = h
-sound before s known order range here long asks EndsEarly h = h
-sound before s known order range here long asks BadLine h = known h
-sound before s known order range here long asks OutOfOrder h = order h
-sound before s known order range here long asks NumberRange h = range h
-sound before s known order range here long asks NotHere h = here h
-sound before s known order range here long asks TooLong h = long h
-sound before s known order range here long asks BadPredicate h = asks h
+pub faultless : (before : List Statement) (s : Statement) → Lacks before s BadLine → Lacks before s OutOfOrder → Lacks before s NumberRange
+    → Lacks before s NotHere → Lacks before s TooLong → Lacks before s BadPredicate → IsFaultless before s
+faultless before s known order range here long asks BadByte h = h
+faultless before s known order range here long asks BadToken h = h
+faultless before s known order range here long asks EndsEarly h = h
+faultless before s known order range here long asks BadLine h = known h
+faultless before s known order range here long asks OutOfOrder h = order h
+faultless before s known order range here long asks NumberRange h = range h
+faultless before s known order range here long asks NotHere h = here h
+faultless before s known order range here long asks TooLong h = long h
+faultless before s known order range here long asks BadPredicate h = asks h
 
 -- a file of this version has the statement
 pub known : (before : List Statement) (s : Statement) → version_has (version_of before) s ≡ true → Lacks before s BadLine
@@ -109,12 +107,6 @@ fault_asks before s has order range here long h =
       h,
     )
 
--- the fault of a statement is that of the tokens that say it
-pub fault_in : (before : List Statement) (lexemes : List Lexeme) (s : Statement) (kind : LitmusKind) → lexemes ≡ statement_lexemes s
-    → (kind ≡ BadLine → ⊥) → IsFirstKind before s kind → IsFaultIn before lexemes kind
-fault_in before lexemes s BadLine e other h = absurd (other refl)
-fault_in before lexemes s kind e other h = (s, e, h)
-
 contains_cases : (x : Lexeme) (xs : List Lexeme) (y : Lexeme) → Contains (x ∷ xs) y → (x ≡ y) ⊎ Contains xs y
 contains_cases x xs y (zero, within, at) = inl at
 contains_cases x xs y (suc k, within, at) = inr (k, omega arith, at)
@@ -143,14 +135,6 @@ wide lexemes s e none = elim (wide_or_small lexemes) [
   | inl there ↦ subst (λ (ls : List Lexeme). Contains ls (Number None)) e there
   | inr small ↦ absurd (none small)
 ]
-
--- the fault of what a line says is the fault of the line
-pub line_fault : (before : List Statement) (line : List ℕ) (lexemes : List Lexeme) (kind : LitmusKind) → AreLexemes line lexemes → (lexemes ≡ [] → ⊥)
-    → IsFaultIn before lexemes kind → IsLineFault before line kind
-line_fault before line lexemes BadByte are some h = absurd (h.2.4)
-line_fault before line lexemes BadToken are some h = absurd (h.2.4)
-line_fault before line lexemes BadLine are some h = (lexemes, are, some, h)
-line_fault before line lexemes kind are some h = (h.0, subst (λ (ls : List Lexeme). AreLexemes line ls) h.1 are, h.2)
 
 -- what is asked of a statement but its numbers is asked of it without them
 same_version : (version : ℕ) (s : Statement) → version_has version s ≡ version_has version (numberless s)
@@ -203,7 +187,7 @@ no_numbers before (Called (call.Attr path key value)) = (λ x. x, λ x. x, λ x.
 no_numbers before (Called c) = (λ x. x, λ x. x, λ x. x, λ x. x, λ x. x, λ x. x)
 no_numbers before (Question want asked) = (λ x. x, λ x. x, λ x. x, λ x. x, λ x. x, λ x. x)
 
-alike_has : (before : List Statement) (s t : Statement) → numberless s ≡ numberless t → HasWide t → (kind : LitmusKind) → Has before s kind → Has before t kind
+pub alike_has : (before : List Statement) (s t : Statement) → numberless s ≡ numberless t → HasWide t → (kind : LitmusKind) → Has before s kind → Has before t kind
 alike_has before s t e large BadByte h = h
 alike_has before s t e large BadToken h = h
 alike_has before s t e large EndsEarly h = h
@@ -218,14 +202,3 @@ alike_has before s t e large TooLong h =
     (no_numbers before t).3 (subst (λ (u : Statement). IsTooLong before u) e ((no_numbers before s).2 h))
 alike_has before s t e large BadPredicate h =
     (no_numbers before t).5 (subst (λ (u : Statement). AsksNothing u) e ((no_numbers before s).4 h))
-
--- statements that are alike, each with a number above 2^32 - 1, have the same fault
-pub alike_fault : (before : List Statement) (s t : Statement) (kind : LitmusKind) → numberless s ≡ numberless t → HasWide s → HasWide t
-    → IsFirstKind before s kind → IsFirstKind before t kind
-alike_fault before s t kind e large larger (tried, others, cut, lacks, has) = (
-  tried,
-  others,
-  cut,
-  All-weaker (λ (k : LitmusKind). Has before s k → ⊥) (λ (k : LitmusKind). Has before t k → ⊥) (λ k none there. none (alike_has before t s (sym e) large k there)) tried lacks,
-  alike_has before s t e larger kind has,
-)

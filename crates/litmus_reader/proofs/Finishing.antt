@@ -13,8 +13,11 @@ use Rattle.litmus_reader.specs.declared.stages.Stage.TheVariants.{Start, BehindH
 use Rattle.litmus_reader.specs.declared.draft.Draft.{Draft}
 use Rattle.litmus_reader.specs.declared.draft.Asked.{Asked}
 use Rattle.litmus_reader.specs.Stages.{stage_behind, run}
-use Rattle.litmus_reader.specs.Statements.{Question}
-use Rattle.litmus_reader.specs.StatedLines.{Stated, stated_in}
+use Rattle.line_files.specs.Refusals.{IsUnended}
+use Rattle.litmus_reader.specs.LitmusText.{litmus_grammar}
+use Rattle.litmus_reader.specs.Statements.{Statement, Question}
+use Rattle.line_files.specs.StatedLines.{stated_in}
+use Rattle.litmus_reader.specs.StatedLines.{Stated}
 use Rattle.litmus_reader.specs.WholeFiles.{IsTest}
 use Rattle.litmus_reader.specs.Drafts.{StandsAt, IsDraft}
 use Rattle.litmus_reader.proofs.Orders.{run_append}
@@ -58,9 +61,10 @@ has_question stated d (front, setup, line, f, s, asked, q, is, question, short, 
 
 -- without a question in the draft there was none in the lines
 pub unasked : (stated : List Stated) (d : Draft) → IsDraft stated d → d.question ≡ None
-    → (line : ℕ) (want : Bool) (asked : List Lexeme) → Contains stated (stated_in line (Question want asked)) → ⊥
-unasked stated d h none line want asked there =
-    let at = asked_at_end stated d.stage line want asked h.reached there in
+    → IsUnended litmus_grammar stated
+unasked stated d h none s there (want, asked, is) =
+    let question = subst (λ (u : Statement). Contains stated (stated_in s.line u)) is there in
+    let at = asked_at_end stated d.stage s.line want asked h.reached question in
     has_question stated d (subst (λ (p : Stage). StandsAt p stated d) at h.stands) none
 
 at_end : (p : Stage) (stated : List Stated) (d : Draft) (q : Asked) → StandsAt p stated d → d.question ≡ Some q → StandsAt End stated d

@@ -1,6 +1,5 @@
 -- What is said of the statements up to a stage of a litmus file.
-use Rattle.std.proofs.Common.{◌≡◌, ◌≢◌, ◌⊎◌, ℕ, Bool, true, false, ◌||◌, List, [], ◌∷◌, ◌++◌, map, fold, Option, Some, refl, sym, ◌∙◌, ap, ap₂, subst, inl, inr, append_assoc}
-use Rattle.std.specs.Option.{option_and_then}
+use Rattle.std.proofs.Common.{◌≡◌, ◌≢◌, ℕ, Bool, true, false, ◌||◌, List, [], ◌∷◌, ◌++◌, map, Option, Some, refl, sym, ◌∙◌, ap, ap₂, subst, inl, inr, append_assoc}
 use Rattle.std.proofs.lemmas.List.{map-append}
 use Rattle.std.proofs.lemmas.List.Sums.{fold_push}
 use Rattle.litmus_syntax.specs.declared.call.Call.{Call}
@@ -14,7 +13,8 @@ use Rattle.litmus_reader.specs.Calls.{calls_in, begins_body, body_calls, block_b
 use Rattle.litmus_reader.specs.Statements.{Statement, Head, Block, Setup, Body, Called, Question, form_of}
 use Rattle.litmus_reader.specs.Versions.{version_of}
 use Rattle.litmus_reader.specs.Stages.{stage_behind, run}
-use Rattle.litmus_reader.specs.StatedLines.{Stated, stated_in, statements}
+use Rattle.line_files.specs.StatedLines.{stated_in, statements}
+use Rattle.litmus_reader.specs.StatedLines.{Stated}
 use Rattle.litmus_reader.specs.WholeFiles.{stated_step, IsBlock, IsSector, IsFront, IsSetup}
 use Rattle.litmus_reader.specs.Drafts.{StandsAt}
 use Rattle.litmus_reader.proofs.Orders.{run_more}

@@ -1,8 +1,8 @@
 -- A test that is read keeps to the forms and limits of its type.
-use Rattle.std.proofs.Common.{◌≡◌, ◌⊎◌, ℕ, ◌+◌, ◌<◌, ◌^◌, Bool, true, false, not, ◌&&◌, ◌||◌, ◌==◌, List, [], ◌∷◌, ◌++◌, map, Option, Some, None, IsTrue, refl, sym, ◌∙◌, ap, subst, inl, inr, append_assoc, arith}
+use Rattle.std.proofs.Common.{◌≡◌, ◌⊎◌, ℕ, ◌+◌, ◌^◌, Bool, true, false, not, ◌&&◌, ◌||◌, ◌==◌, List, [], ◌∷◌, ◌++◌, map, Option, Some, None, IsTrue, refl, sym, ◌∙◌, ap, inl, inr, arith}
 use Rattle.std.specs.List.{All, Contains}
-use Rattle.std.proofs.lemmas.Bool.{cases_lt, cases_Bool, lt-ltb, and_from, eqb-true, false≢true, not-true}
-use Rattle.std.proofs.lemmas.List.Elements.{All-contains, All-from_get_or, All-head, All-tail, All-cons, All-nil, All-same, Contains-append_left, Contains-append_right}
+use Rattle.std.proofs.lemmas.Bool.{cases_lt, cases_Bool, lt-ltb, and_from, eqb-true, false≢true}
+use Rattle.std.proofs.lemmas.List.Elements.{All-head, All-tail, All-cons, All-nil, All-same}
 use Rattle.litmus_syntax.specs.declared.call.Call.{Call}
 use Rattle.litmus_syntax.specs.declared.call.Call.TheVariants as call
 use Rattle.litmus_syntax.specs.declared.call.Step.{Step}
@@ -12,15 +12,16 @@ use Rattle.litmus_syntax.specs.Limits.{IsWithinLimits}
 use Rattle.litmus_syntax.specs.Test.{Test}
 use Rattle.text_scan.specs.Forms.{is_word}
 use Rattle.lexeme_reader.specs.declared.reading.Lexeme.{Lexeme}
-use Rattle.lexeme_reader.specs.declared.reading.Lexeme.TheVariants.{Word, Number, Sign}
+use Rattle.lexeme_reader.specs.declared.reading.Lexeme.TheVariants.{Number, Sign}
 use Rattle.lexeme_reader.specs.Lexemes.{is_formed, AreLexemes}
-use Rattle.litmus_reader.specs.Statements.{Statement, Head, Block, Sector, Setup, Body, Called, Question, number, call_lexemes, statement_lexemes}
+use Rattle.litmus_reader.specs.Statements.{Head, Sector, Body, Called, Question, number, call_lexemes, statement_lexemes}
 use Rattle.litmus_reader.specs.Versions.{version_named, version_has}
 use Rattle.litmus_reader.specs.Faults.{HasWide}
-use Rattle.litmus_reader.specs.StatedLines.{Stated, AreStated, stated_in}
-use Rattle.litmus_reader.specs.WholeFiles.{stated_step, IsSector, IsTest}
+use Rattle.line_files.specs.StatedLines.{stated_in}
+use Rattle.litmus_reader.specs.StatedLines.{Stated, AreStated}
+use Rattle.litmus_reader.specs.WholeFiles.{stated_step, IsTest}
 use Rattle.litmus_reader.specs.Drafts.{IsOfFormed}
-use Rattle.litmus_reader.proofs.Narrow.{narrow_is, wide_is}
+use Rattle.litmus_reader.proofs.Narrow.{wide_is}
 use Rattle.litmus_reader.proofs.Below.{KeptLaws}
 
 -- a call of formed tokens is formed, where their numbers are in range

@@ -9,10 +9,8 @@ pub mod Fronts
 pub mod Keeping
 pub mod Leading
 pub mod Narrow
-pub mod OneLine
 pub mod OneReading
-pub mod OneRefusal
 pub mod OneTest
 pub mod Orders
+pub mod Saying
 pub mod SoundTest
-pub mod Stating

@@ -9,7 +9,8 @@ use Rattle.predicate_reader.specs.Predicates.{IsPredicate}
 use Rattle.litmus_reader.specs.Calls.{begins_body}
 use Rattle.litmus_reader.specs.Statements.{Statement, Head, Block, Sector, Body, Called, Question}
 use Rattle.litmus_reader.specs.Versions.{version_named}
-use Rattle.litmus_reader.specs.StatedLines.{Stated, stated_in, statements}
+use Rattle.line_files.specs.StatedLines.{stated_in, statements}
+use Rattle.litmus_reader.specs.StatedLines.{Stated}
 use Rattle.litmus_reader.specs.WholeFiles.{stated_step, IsBlock, IsSector, IsSetup, IsTest}
 use Rattle.litmus_reader.specs.Drafts.{step_in}
 use Rattle.litmus_reader.proofs.Fronts.{front_quiet, before_body}

@@ -1,7 +1,7 @@
 -- Each statement of a litmus test is sound behind those before it.
-use Rattle.std.proofs.Common.{◌≡◌, ◌⊎◌, ℕ, ◌+◌, ◌<◌, ◌≤◌, Bool, true, false, not, ◌&&◌, ◌||◌, cond, List, [], ◌∷◌, ◌++◌, length, map, fold, replicate, Option, Some, None, IsTrue, refl, sym, ◌∙◌, ap, ap₂, subst, inl, inr, append_assoc, append-nil, true≢false, arith}
+use Rattle.std.proofs.Common.{◌≡◌, ℕ, ◌<◌, ◌≤◌, Bool, true, false, not, ◌&&◌, ◌||◌, cond, List, [], ◌∷◌, ◌++◌, length, map, fold, replicate, Option, Some, None, refl, sym, ◌∙◌, ap, ap₂, subst, inl, inr, append_assoc, append-nil, true≢false, arith}
 use Rattle.std.specs.List.{All}
-use Rattle.std.proofs.lemmas.List.{length-append, length-map, map-append}
+use Rattle.std.proofs.lemmas.List.{length-append, length-map}
 use Rattle.std.proofs.lemmas.List.Elements.{All-contains, All-map, All-same, All-nil, All-cons, All-append, Contains-append_right, filter-append}
 use Rattle.std.proofs.lemmas.Bool.{false≢true, and_parts}
 use Rattle.litmus_syntax.specs.declared.call.Call.{Call}
@@ -12,22 +12,26 @@ use Rattle.litmus_syntax.specs.Test.{Test}
 use Rattle.lexeme_reader.specs.declared.reading.Lexeme.{Lexeme}
 use Rattle.predicate_reader.specs.Counts.{IsShort}
 use Rattle.predicate_reader.specs.Predicates.{IsPredicate}
-use Rattle.litmus_reader.specs.declared.fault.LitmusKind.TheVariants.{BadLine, OutOfOrder, NumberRange, NotHere, BadPredicate, TooLong}
+use Rattle.litmus_reader.specs.declared.fault.LitmusKind.TheVariants.{NumberRange, NotHere, BadPredicate, TooLong}
 use Rattle.litmus_reader.specs.declared.statements.Form.{Form}
 use Rattle.litmus_reader.specs.declared.statements.Form.TheVariants as form
 use Rattle.litmus_reader.specs.Calls.{calls_in, begins_body, body_calls, block_behind, block_of}
 use Rattle.litmus_reader.specs.Places.{IsOneAtMost, IsSetupPart, IsOrder}
 use Rattle.litmus_reader.specs.Statements.{Statement, Head, Block, Sector, Setup, Body, Called, Question}
 use Rattle.litmus_reader.specs.Versions.{version_of, version_has}
-use Rattle.litmus_reader.specs.Faults.{HasWide, IsBadSize, pairs, IsSound}
-use Rattle.litmus_reader.specs.StatedLines.{Stated, stated_in, statements}
-use Rattle.litmus_reader.specs.WholeFiles.{stated_step, IsBlock, IsSector, IsFront, IsSetup, IsTest}
-use Rattle.litmus_reader.specs.LitmusText.{AreSound}
+use Rattle.litmus_reader.specs.Faults.{HasWide, IsBadSize, pairs}
+use Rattle.line_files.specs.StatedLines.{stated_in, statements}
+use Rattle.line_files.specs.FirstFaults.{AreSound}
+use Rattle.line_files.proofs.GeneralStating.{cut_last}
+use Rattle.litmus_reader.specs.StatedLines.{Stated}
+use Rattle.litmus_reader.specs.WholeFiles.{stated_step, IsBlock, IsSector, IsSetup, IsTest}
+use Rattle.litmus_reader.specs.LitmusText.{litmus_grammar}
+use Rattle.litmus_reader.specs.TakenLines.{IsFaultless}
 use Rattle.litmus_reader.proofs.Fronts.{forms, forms-append, statements-append, front_quiet, setup_quiet, behind_front, steps_call, calls_in-append, body_calls-behind}
 use Rattle.litmus_reader.proofs.OneTest.{front_of, front_cut, body_cut, quiet}
-use Rattle.litmus_reader.proofs.Faulting.{Lacks, sound, known, ordered}
+use Rattle.litmus_reader.proofs.Faulting.{Lacks, faultless, known, ordered}
 use Rattle.litmus_reader.proofs.Calling.{suit-append}
-use Rattle.litmus_reader.proofs.Stating.{cut_last}
+use Rattle.litmus_reader.proofs.Saying.{sound_said}
 
 -- the calls before the body
 front_calls : List Statement → List Call
@@ -426,13 +430,13 @@ module _ (stated : List Stated) (t : Test) (h : IsTest stated t) where
         nothing t.pred (subst (λ (ls : List Lexeme). IsPredicate ls t.pred) (sym (asked_is want asked is)) h.pred)
     asks_something u is none = none
 
-    is_sound : IsSound (statements before) s.statement
-    is_sound =
-        sound (statements before) s.statement
+    is_faultless : IsFaultless (statements before) s.statement
+    is_faultless =
+        faultless (statements before) s.statement
         (known (statements before) s.statement (has_version before cut))
         (ordered (statements before) s.statement (forms behind, subst IsOrder (ap forms cut ∙ forms-append before (s ∷ behind)) in_order) (pairs_here s.statement refl))
         small (here s.statement refl) (short s.statement refl) (asks_something s.statement refl)
 
 -- the statements of a test are sound
-pub test_sound : (stated : List Stated) (t : Test) → IsTest stated t → AreSound stated
-test_sound stated t h before behind s cut = is_sound stated t h before behind s cut
+pub test_sound : (stated : List Stated) (t : Test) → IsTest stated t → AreSound litmus_grammar stated
+test_sound stated t h before behind s cut = sound_said (statements before) s.statement (is_faultless stated t h before behind s cut)

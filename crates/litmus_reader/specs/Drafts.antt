@@ -1,5 +1,5 @@
 -- Private: what is kept of the lines of a litmus file while it is read.
-use Rattle.std.specs.Prelude.{◌≡◌, ℕ, ◌≤◌, Bool, true, false, List, [], ◌∷◌, ◌++◌, Option, Some, None, length, map, All, IsTrue}
+use Rattle.std.specs.Prelude.{◌≡◌, ℕ, ◌≤◌, true, false, List, [], ◌∷◌, ◌++◌, Option, Some, None, length, map, All, IsTrue}
 use Rattle.litmus_syntax.specs.declared.call.Call.{Call}
 use Rattle.litmus_syntax.specs.declared.call.Step.{Step}
 use Rattle.litmus_syntax.specs.CallKinds.{is_setup_call, is_body_call, sync_free}
@@ -15,7 +15,8 @@ use Rattle.litmus_reader.specs.declared.draft.Asked.{Asked}
 use Rattle.litmus_reader.specs.Statements.{Statement, Head, Block, Setup, Body, Question, statement_lexemes, form_of}
 use Rattle.litmus_reader.specs.Versions.{version_named, version_of, version_has}
 use Rattle.litmus_reader.specs.Calls.{block_of}
-use Rattle.litmus_reader.specs.StatedLines.{Stated, stated_in, statements}
+use Rattle.line_files.specs.StatedLines.{stated_in, statements}
+use Rattle.litmus_reader.specs.StatedLines.{Stated}
 use Rattle.litmus_reader.specs.WholeFiles.{stated_step, IsFront, IsSetup}
 use Rattle.litmus_reader.specs.Faults.{HasWide, pairs}
 use Rattle.litmus_reader.specs.Stages.{stage_behind, run}

@@ -1,11 +1,12 @@
 -- What may be wrong with a line that states something.
-use Rattle.std.specs.Prelude.{◌≡◌, ◌⊎◌, ℕ, ◌<◌, ◌≤◌, Bool, true, false, not, ◌||◌, List, length, map, None}
+use Rattle.std.specs.Prelude.{◌≡◌, ◌⊎◌, ◌<◌, ◌≤◌, Bool, true, false, not, ◌||◌, List, length, map, None}
 use Rattle.std.specs.List.{Contains}
 use Rattle.litmus_syntax.specs.CallKinds.{is_setup_call, is_body_call, is_boundary, sync_free, is_sync}
 use Rattle.litmus_syntax.specs.Transactions.{is_open, suits}
 use Rattle.predicate_reader.specs.Counts.{IsShort}
 use Rattle.predicate_reader.specs.Predicates.{IsPredicate}
 use Rattle.litmus_syntax.specs.declared.pred.Pred.{Pred}
+use Rattle.lexeme_reader.specs.declared.reading.Lexeme.{Lexeme}
 use Rattle.lexeme_reader.specs.declared.reading.Lexeme.TheVariants.{Number}
 use Rattle.litmus_reader.specs.declared.fault.LitmusKind.{LitmusKind}
 use Rattle.litmus_reader.specs.declared.fault.LitmusKind.TheVariants.{EndsEarly, TooLong, BadByte, BadToken, BadLine, OutOfOrder, NumberRange, NotHere, BadPredicate}
@@ -79,6 +80,8 @@ Has before s BadByte = ⊥
 Has before s BadToken = ⊥
 Has before s EndsEarly = ⊥
 
--- a statement without a fault
-abbrev pub IsSound : List Statement → Statement → Type 0
-IsSound before s = (kind : LitmusKind) → Has before s kind → ⊥
+-- tokens behind those statements have a fault of this kind: they are no statement that a file of this version has, or
+-- they are one with that fault
+abbrev pub HaveFault : List Statement → List Lexeme → LitmusKind → Type 0
+HaveFault before lexemes BadLine = (s : Statement) → lexemes ≡ statement_lexemes s → IsForeign before s
+HaveFault before lexemes kind = (s : Statement) × (lexemes ≡ statement_lexemes s) × Has before s kind

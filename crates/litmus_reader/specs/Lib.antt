@@ -1,7 +1,6 @@
 pub mod Calls
 pub mod Drafts
 pub mod Faults
-pub mod FirstFaults
 pub mod Keywords
 pub mod Kinds
 pub mod LitmusText

@@ -1,5 +1,5 @@
 -- The statements of a whole litmus file, in their order, and the litmus test that they make.
-use Rattle.std.specs.Prelude.{◌≡◌, ◌⊎◌, ℕ, ◌≤◌, Bool, true, false, List, [], ◌∷◌, ◌++◌, Option, length, map, All, IsTrue}
+use Rattle.std.specs.Prelude.{◌≡◌, ◌⊎◌, ℕ, ◌≤◌, true, false, List, [], ◌∷◌, ◌++◌, Option, length, map, All, IsTrue}
 use Rattle.litmus_syntax.specs.declared.call.Step.{Step}
 use Rattle.litmus_syntax.specs.Test.{Test}
 use Rattle.lexeme_reader.specs.declared.reading.Lexeme.{Lexeme}
@@ -9,7 +9,8 @@ use Rattle.predicate_reader.specs.Counts.{IsShort}
 use Rattle.predicate_reader.specs.Predicates.{IsPredicate}
 use Rattle.litmus_reader.specs.Statements.{Head, Block, Sector, Setup, Body, Called, Question}
 use Rattle.litmus_reader.specs.Versions.{version_named, version_has}
-use Rattle.litmus_reader.specs.StatedLines.{Stated, stated_in}
+use Rattle.line_files.specs.StatedLines.{stated_in}
+use Rattle.litmus_reader.specs.StatedLines.{Stated}
 use Rattle.litmus_reader.specs.Faults.{HasWide}
 
 -- a call in its line

@@ -131,6 +131,38 @@ fn call_on_key(name: Keyword, path: Path, key: Text, number: Option<u32>) -> Opt
     }
 }
 
+/// The call that this name, a path and the tokens behind it are, if they are one.
+fn call_behind_path(
+    alloc: Global,
+    name: Keyword,
+    path: Path,
+    behind: &[Lexeme],
+) -> Result<Option<Call>, AllocError>
+    ensures { IfOk result (λ o. MatchOption o
+        ((c : Call) → says.Word (keyword_text name) ∷ says.Path path ∷ behind.now ≡ call_lexemes c → ⊥)
+        (λ c. IsCallRead (says.Word (keyword_text name) ∷ says.Path path ∷ behind.now) c)) }
+{
+    match behind {
+        [] => Ok(call_on_path(name, path)),
+        [Lexeme::Path(to)] => Ok(call_on_paths(name, path, copy_path(alloc, to.as_slice())?)),
+        [Lexeme::Text(text)] => Ok(call_on_text(name, path, copy_text(alloc, text.as_slice())?)),
+        [Lexeme::Number(number)] => Ok(call_on_number(name, path, *number)),
+        [Lexeme::Number(number), Lexeme::Text(text)] => Ok(call_on_place(
+            name,
+            path,
+            *number,
+            copy_text(alloc, text.as_slice())?,
+        )),
+        [Lexeme::Word(key), Lexeme::Number(number)] => Ok(call_on_key(
+            name,
+            path,
+            copy_text(alloc, key.as_slice())?,
+            *number,
+        )),
+        _ => Ok(None),
+    }
+}
+
 /// The call that this name and the tokens behind it are, if they are one.
 pub fn call_of(
     alloc: Global,
@@ -141,45 +173,18 @@ pub fn call_of(
         ((c : Call) → says.Word (keyword_text name) ∷ operands.now ≡ call_lexemes c → ⊥)
         (λ c. IsCallRead (says.Word (keyword_text name) ∷ operands.now) c)) }
 {
-    match operands {
-        [] => Ok(call_alone(name)),
-        [Lexeme::Word(word)] => Ok(call_on_word(name, copy_text(alloc, word.as_slice())?)),
-        [Lexeme::Path(path)] => Ok(call_on_path(name, copy_path(alloc, path.as_slice())?)),
-        [Lexeme::Path(from), Lexeme::Path(to)] => Ok(call_on_paths(
-            name,
-            copy_path(alloc, from.as_slice())?,
-            copy_path(alloc, to.as_slice())?,
-        )),
-        [Lexeme::Path(path), Lexeme::Text(text)] => Ok(call_on_text(
-            name,
-            copy_path(alloc, path.as_slice())?,
-            copy_text(alloc, text.as_slice())?,
-        )),
-        [Lexeme::Path(path), Lexeme::Number(number)] => Ok(call_on_number(
-            name,
-            copy_path(alloc, path.as_slice())?,
-            *number,
-        )),
-        [
-            Lexeme::Path(path),
-            Lexeme::Number(number),
-            Lexeme::Text(text),
-        ] => Ok(call_on_place(
-            name,
-            copy_path(alloc, path.as_slice())?,
-            *number,
-            copy_text(alloc, text.as_slice())?,
-        )),
-        [
-            Lexeme::Path(path),
-            Lexeme::Word(key),
-            Lexeme::Number(number),
-        ] => Ok(call_on_key(
-            name,
-            copy_path(alloc, path.as_slice())?,
-            copy_text(alloc, key.as_slice())?,
-            *number,
-        )),
+    let Some((first, behind)) = operands.split_first() else {
+        return Ok(call_alone(name));
+    };
+    match first {
+        Lexeme::Word(word) if behind.is_empty() => {
+            Ok(call_on_word(name, copy_text(alloc, word.as_slice())?))
+        }
+        Lexeme::Path(path) => {
+            let path = copy_path(alloc, path.as_slice())?;
+            let call = call_behind_path(alloc, name, path, behind)?;
+            Ok(call)
+        }
         _ => Ok(None),
     }
 }

@@ -11,11 +11,13 @@ ghost use Rattle.litmus_reader.specs.Statements.{Statement, Question, statement_
 ghost use Rattle.litmus_reader.specs.Versions.{version_named};
 ghost use Rattle.litmus_reader.specs.Faults.{pairs};
 ghost use Rattle.litmus_reader.specs.Read.{statement_of};
-ghost use Rattle.litmus_reader.specs.FirstFaults.{IsFirstKind};
-ghost use Rattle.litmus_reader.specs.StatedLines.{Stated, stated_in, statements};
+ghost use Rattle.line_files.specs.StatedLines.{stated_in, statements};
+ghost use Rattle.line_files.specs.Refusals.{IsUnended};
+ghost use Rattle.litmus_reader.specs.LitmusText.{shared_kind, litmus_grammar};
+ghost use Rattle.litmus_reader.specs.StatedLines.{Stated};
 ghost use Rattle.litmus_reader.specs.WholeFiles.{IsTest};
 ghost use Rattle.litmus_reader.specs.Drafts.{step_in, IsExpected, IsDraft};
-ghost use Rattle.litmus_reader.specs.TakenLines.{IsTaken, IsFaultIn};
+ghost use Rattle.litmus_reader.specs.TakenLines.{IsTaken, IsFirstKind};
 
 use crate::call_kinds::{is_body_call, is_open_behind, is_setup_call, is_sync, suits};
 use crate::fault::LitmusKind;
@@ -23,37 +25,13 @@ use crate::stages::Stage;
 use crate::statements::{Said, said_by};
 use fer_list::Seq;
 use lexeme_reader::Lexeme;
-use litmus_syntax::{Call, Litmus, Pred, Step, Text, copy_text};
+use line_files::{LineFault, SharedFault, TakeLine};
+use litmus_syntax::{
+    Call, Litmus, MOST_BLOCK, MOST_BODY_CALLS, MOST_SETUP_CALLS, Pred, Step, Text, USUAL_BLOCK,
+    copy_text,
+};
 use predicate_reader::{are_in_range, is_short, kept_limits, predicate};
 use std::alloc::{AllocError, Global};
-
-/// The most calls of the setup.
-const MOST_SETUP_CALLS: usize = 256;
-
-/// The most calls of the body that aren't syncs.
-const MOST_BODY_CALLS: usize = 128;
-
-/// The block where a file doesn't name one, and the largest that it may name, in bytes.
-const BLOCK: u32 = 4096;
-
-const MOST_BLOCK: u32 = 65536;
-
-/// Why a line isn't taken.
-#[derive(Clone, Copy, Debug)]
-pub enum LineFault {
-    Bad(LitmusKind),
-    OutOfMemory,
-}
-
-impl From<AllocError> for LineFault {
-    ghost use Rattle.litmus_reader.specs.declared.draft.LineFault.{LineFault};
-
-    ghost from_gives = { λ e r. r ≡ LineFault.OutOfMemory };
-
-    fn from(_error: AllocError) -> LineFault {
-        LineFault::OutOfMemory
-    }
-}
 
 /// The question of a file, with its line.
 #[derive(Debug, Drop)]
@@ -89,8 +67,8 @@ impl Draft {
             stage: Stage::Start,
             name: Seq::new(alloc),
             version: 1,
-            block: BLOCK,
-            sector: BLOCK,
+            block: USUAL_BLOCK,
+            sector: USUAL_BLOCK,
             setup: Seq::new(alloc),
             body: Seq::new(alloc),
             changes: 0,
@@ -105,7 +83,7 @@ impl Draft {
         alloc: Global,
         name: &Text,
         version: Option<u32>,
-    ) -> Result<(), LineFault>
+    ) -> Result<(), LineFault<LitmusKind>>
         ensures set { OnOk result (self.new ≡ record self.old { name = name.now; version = version_named version }) }
         ensures no_fault { (kind : LitmusKind) → result ≡ Err (LineFault.Bad kind) → ⊥ }
     {
@@ -115,7 +93,7 @@ impl Draft {
     }
 
     /// Notes the size of a block, which is that of a sector too where no line names one.
-    fn set_block(&mut self, size: u32) -> Result<(), LineFault>
+    fn set_block(&mut self, size: u32) -> Result<(), LineFault<LitmusKind>>
         ensures set { OnOk result ((1 ≤ size) × (size ≤ 65536) × (self.new ≡ record self.old { block = size; sector = size })) }
         ensures fault { (kind : LitmusKind) → result ≡ Err (LineFault.Bad kind)
             → (kind ≡ LitmusKind.NumberRange) × ((size ≡ 0) ⊎ (65536 < size)) }
@@ -132,7 +110,7 @@ impl Draft {
     }
 
     /// Notes the size of a sector.
-    fn set_sector(&mut self, size: u32) -> Result<(), LineFault>
+    fn set_sector(&mut self, size: u32) -> Result<(), LineFault<LitmusKind>>
         ensures set { OnOk result ((1 ≤ size) × (size ≤ self.old.block) × (self.new ≡ record self.old { sector = size })) }
         ensures fault { (kind : LitmusKind) → result ≡ Err (LineFault.Bad kind)
             → (kind ≡ LitmusKind.NumberRange) × ((size ≡ 0) ⊎ (self.old.block < size)) }
@@ -148,7 +126,7 @@ impl Draft {
     }
 
     /// Notes a call of the setup.
-    fn push_setup(&mut self, line: u32, call: Call) -> Result<(), LineFault>
+    fn push_setup(&mut self, line: u32, call: Call) -> Result<(), LineFault<LitmusKind>>
         ensures pushed { OnOk result ((is_setup_call call ≡ true) × (length self.old.setup < 256)
             × (self.new ≡ record self.old { setup = self.old.setup ++ step_in line call ∷ [] })) }
         ensures fault { (kind : LitmusKind) → result ≡ Err (LineFault.Bad kind)
@@ -166,7 +144,7 @@ impl Draft {
     }
 
     /// Notes a call of the body.
-    fn push_body(&mut self, line: u32, call: Call) -> Result<(), LineFault>
+    fn push_body(&mut self, line: u32, call: Call) -> Result<(), LineFault<LitmusKind>>
         ensures pushed { OnOk result ((is_body_call call ≡ true) × (suits self.old.in_transaction call ≡ true)
             × (is_sync call ≡ false → self.old.changes < 128)
             × (self.new ≡ record self.old {
@@ -207,7 +185,7 @@ impl Draft {
         line: u32,
         want: bool,
         asked: &[Lexeme],
-    ) -> Result<(), LineFault>
+    ) -> Result<(), LineFault<LitmusKind>>
         requires { AreInRange asked.now }
         ensures asked { OnOk result (IsShort asked.now × ((pred : Pred) × IsPredicate asked.now pred
             × (self.new ≡ record self.old { question = Some (record { line = line; want = want; pred = pred }) }))) }
@@ -226,7 +204,13 @@ impl Draft {
     }
 
     /// Notes what a line states, at the stage that it leads to.
-    fn state(&mut self, alloc: Global, line: u32, stage: Stage, said: Said) -> Result<(), LineFault>
+    fn state(
+        &mut self,
+        alloc: Global,
+        line: u32,
+        stage: Stage,
+        said: Said,
+    ) -> Result<(), LineFault<LitmusKind>>
         requires { IsExpected self.old stage (statement_of said) }
         ensures taken { OnOk result ((stated : List Stated) → IsDraft stated self.old → IsTaken stated line (statement_of said.entry) self.new) }
         ensures fault { (kind : LitmusKind) → result ≡ Err (LineFault.Bad kind)
@@ -259,37 +243,11 @@ impl Draft {
         }
     }
 
-    /// Takes a line that says something.
-    pub fn take(&mut self, alloc: Global, line: u32, lexemes: &[Lexeme]) -> Result<(), LineFault>
-        requires { All (λ l. IsTrue (is_formed l)) lexemes.now }
-        ensures taken { OnOk result ((stated : List Stated) → IsDraft stated self.old
-            → (s : Statement) × (lexemes.now ≡ statement_lexemes s) × IsTaken stated line s self.new) }
-        ensures fault { (kind : LitmusKind) → result ≡ Err (LineFault.Bad kind)
-            → (stated : List Stated) → IsDraft stated self.old → IsFaultIn (statements stated) lexemes.now kind }
-    {
-        let Some(said) = said_by(alloc, lexemes)? else {
-            return Err(LineFault::Bad(LitmusKind::BadLine));
-        };
-        if !said.is_of_version(self.version) {
-            return Err(LineFault::Bad(LitmusKind::BadLine));
-        }
-        let Some(stage) = self.stage.behind(said.form()) else {
-            return Err(LineFault::Bad(LitmusKind::OutOfOrder));
-        };
-        if self.is_unpaired(&said) {
-            return Err(LineFault::Bad(LitmusKind::OutOfOrder));
-        }
-        if !are_in_range(lexemes) {
-            return Err(LineFault::Bad(LitmusKind::NumberRange));
-        }
-        self.state(alloc, line, stage, said)
-    }
-
     /// The test that the lines make, if they end with a question.
     pub fn finish(self) -> Option<Litmus>
         requires { (stated : List Stated) × IsDraft stated self }
         ensures { (stated : List Stated) → IsDraft stated self → MatchOption result
-            ((line : ℕ) (want : Bool) (asked : List Lexeme) → Contains stated (stated_in line (Question want asked)) → ⊥)
+            (IsUnended litmus_grammar stated)
             (λ litmus. IsTest stated litmus) }
     {
         let Draft {
@@ -309,5 +267,48 @@ impl Draft {
         };
         kept_limits();
         Some(Litmus::new(name, block, setup, body, want, pred, line, version, sector))
+    }
+}
+
+impl TakeLine for Draft {
+    type Kind = LitmusKind;
+
+    ghost statement = { Statement };
+
+    ghost grammar = { litmus_grammar };
+
+    ghost keeps = { λ d stated. IsDraft stated d };
+
+    fn shared_kind(fault: SharedFault) -> LitmusKind {
+        match fault {
+            SharedFault::BadByte => LitmusKind::BadByte,
+            SharedFault::BadToken => LitmusKind::BadToken,
+            SharedFault::EndsEarly => LitmusKind::EndsEarly,
+            SharedFault::TooLong => LitmusKind::TooLong,
+        }
+    }
+
+    fn take(
+        &mut self,
+        alloc: Global,
+        line: u32,
+        lexemes: &[Lexeme],
+    ) -> Result<(), LineFault<LitmusKind>> {
+        let Some(said) = said_by(alloc, lexemes)? else {
+            return Err(LineFault::Bad(LitmusKind::BadLine));
+        };
+        if !said.is_of_version(self.version) {
+            return Err(LineFault::Bad(LitmusKind::BadLine));
+        }
+        let Some(stage) = self.stage.behind(said.form()) else {
+            return Err(LineFault::Bad(LitmusKind::OutOfOrder));
+        };
+        if self.is_unpaired(&said) {
+            return Err(LineFault::Bad(LitmusKind::OutOfOrder));
+        }
+        if !are_in_range(lexemes) {
+            return Err(LineFault::Bad(LitmusKind::NumberRange));
+        }
+        self.state(alloc, line, stage, said)
     }
 }

@@ -1,7 +1,9 @@
-use Rattle.litmus_reader.proofs.Below.{LineLaws, PredicateLaws}
-use Rattle.litmus_reader.proofs.Deciding.{text_or_refusal}
-use Rattle.litmus_reader.proofs.OneReading.{one_litmus, text_or_refused}
-use Rattle.litmus_reader.proofs.OneRefusal.{one_refusal}
+use Rattle.line_files.proofs.GeneralReadings.{LineLaws, one_text, one_refusal, text_or_refused, read_or_refused}
+use Rattle.litmus_reader.specs.WholeFiles.{IsTest}
+use Rattle.litmus_reader.specs.LitmusText.{litmus_grammar}
+use Rattle.litmus_reader.proofs.Below.{PredicateLaws}
+use Rattle.litmus_reader.proofs.Deciding.{AreKept, decided}
+use Rattle.litmus_reader.proofs.OneReading.{told, made}
 use Rattle.litmus_reader.proofs.laws.one_reading.Goals as goal
 use Rattle.litmus_reader.proofs.laws.one_reading.Goals.{After-predicate_or_none}
 
@@ -19,8 +21,8 @@ predicates c = record { one = c.one_predicate.ensures; some = c.predicate_or_non
 
 pub returns : goal.returns
 returns c = record {
-  one_litmus = one_litmus (lines c) (predicates c);
-  one_refusal = one_refusal (lines c);
-  text_or_refused = text_or_refused (lines c);
-  one_of_them = text_or_refusal (lines c) (predicates c);
+  one_litmus = one_text litmus_grammar (lines c) told IsTest (made (predicates c));
+  one_refusal = one_refusal litmus_grammar (lines c) told;
+  text_or_refused = text_or_refused litmus_grammar (lines c) told IsTest (made (predicates c));
+  one_of_them = read_or_refused litmus_grammar (lines c) IsTest AreKept (decided (predicates c));
 }

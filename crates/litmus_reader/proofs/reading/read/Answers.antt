@@ -1,6 +1,5 @@
 use Rattle.std.proofs.Common.{arith}
-use Rattle.litmus_reader.proofs.Stating.{cut_short}
 use Rattle.litmus_reader.proofs.reading.read.Goals as goal
 
 pub overflow_add-result : goal.overflow_add-result
-overflow_add-result c = omega (arith, c.in_ok-draft.ensures.counted.1)
+overflow_add-result c = omega (arith, c.in-Ok.ensures.few_bytes, c.in-Ok.ensures.few_lines)

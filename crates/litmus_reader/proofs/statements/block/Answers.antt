@@ -3,7 +3,6 @@ use Rattle.lexeme_reader.specs.declared.reading.Lexeme.{Lexeme}
 use Rattle.lexeme_reader.specs.declared.reading.Lexeme.TheVariants.{Word}
 use Rattle.litmus_reader.specs.declared.keywords.Keyword.TheVariants as word
 use Rattle.litmus_reader.specs.Keywords.{keyword_text}
-use Rattle.litmus_reader.proofs.Leading.{block_told}
 use Rattle.litmus_reader.proofs.Exact.{block_read}
 use Rattle.litmus_reader.proofs.statements.block.Goals as goal
 

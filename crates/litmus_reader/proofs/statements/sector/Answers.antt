@@ -3,7 +3,6 @@ use Rattle.lexeme_reader.specs.declared.reading.Lexeme.{Lexeme}
 use Rattle.lexeme_reader.specs.declared.reading.Lexeme.TheVariants.{Word}
 use Rattle.litmus_reader.specs.declared.keywords.Keyword.TheVariants as word
 use Rattle.litmus_reader.specs.Keywords.{keyword_text}
-use Rattle.litmus_reader.proofs.Leading.{sector_told}
 use Rattle.litmus_reader.proofs.Exact.{sector_read}
 use Rattle.litmus_reader.proofs.statements.sector.Goals as goal
 

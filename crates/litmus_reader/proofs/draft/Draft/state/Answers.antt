@@ -5,8 +5,8 @@ use Rattle.litmus_reader.specs.declared.draft.Draft.{Draft}
 use Rattle.litmus_reader.specs.declared.statements.Said.{Said}
 use Rattle.litmus_reader.specs.Read.{statement_of}
 use Rattle.litmus_reader.specs.Statements.{Block, Sector}
-use Rattle.litmus_reader.specs.FirstFaults.{IsFirstKind}
-use Rattle.litmus_reader.specs.StatedLines.{statements}
+use Rattle.litmus_reader.specs.TakenLines.{IsFirstKind}
+use Rattle.line_files.specs.StatedLines.{statements}
 use Rattle.litmus_reader.specs.Drafts.{IsExpected}
 use Rattle.litmus_reader.specs.TakenLines.{IsTaken}
 use Rattle.litmus_reader.proofs.Drafting.{head_taken, block_taken, block_fault, sector_taken, sector_fault, setup_taken, body_taken}

@@ -1,0 +1,2 @@
+pub mod GeneralReadings
+pub mod GeneralStating
