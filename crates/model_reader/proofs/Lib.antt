@@ -1,0 +1,12 @@
+pub mod Completing
+pub mod Deciding
+pub mod Drafting
+pub mod Finishing
+pub mod Listing
+pub mod Meanings
+pub mod Placing
+pub mod Rooms
+pub mod Saying
+pub mod Sounding
+pub mod Telling
+pub mod WordTables

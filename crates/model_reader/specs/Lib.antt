@@ -1,0 +1,9 @@
+pub mod Drafts
+pub mod Expressions
+pub mod Faults
+pub mod Kinds
+pub mod Machine
+pub mod ModelText
+pub mod Statements
+pub mod WordTexts
+pub mod Words
