@@ -1,3 +1,4 @@
 pub mod GeneralTrails
 pub mod Push
 pub mod Pop
+pub mod GeneralPlaces

@@ -1,0 +1,4 @@
+pub mod Heaping
+pub mod Rising
+pub mod Tables
+pub mod Blocks

@@ -1,0 +1,11 @@
+pub mod Chaining
+pub mod Placing
+pub mod Pairing
+pub mod Basics
+pub mod Steps
+pub mod Arms
+pub mod Rounds
+pub mod Closing
+pub mod Choosing
+pub mod Attaching
+pub mod GeneralWatches
