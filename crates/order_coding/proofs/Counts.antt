@@ -10,8 +10,8 @@ use Rattle.std.proofs.lemmas.List.Sums.{length-filter}
 use Rattle.std.proofs.lemmas.List.{length-append}
 use Rattle.fer_events.specs.Orders.{numbers}
 use Rattle.order_coding.specs.Variables.{IsNumber}
-use Rattle.order_coding.proofs.Lists.{range_more}
-use Rattle.order_coding.proofs.Grows.{append-nil}
+use Rattle.order_coding.proofs.GeneralLists.{range_more}
+use Rattle.order_coding.proofs.GeneralGrowth.{append-nil}
 
 range-next : (k : ℕ) → 1 ≤ k → range_with_len 1 (k + 1 - 1) ≡ range_with_len 1 (k - 1) ++ k ∷ []
 range-next k h =

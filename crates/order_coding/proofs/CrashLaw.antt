@@ -11,11 +11,12 @@ use Rattle.fer_events.specs.Orders.{StandsBefore, before_cut, IsCrash, AreForwar
 use Rattle.order_coding.specs.Variables.{IsNumber, order_vars}
 use Rattle.order_coding.specs.Families.{order_clauses, order_formula, txn_of}
 use Rattle.order_coding.specs.Decoded.{is_in, is_before, Describes}
-use Rattle.order_coding.proofs.Lists.{order-of}
+use Rattle.order_coding.proofs.GeneralLists.{order-of}
 use Rattle.order_coding.proofs.Meaning.{AreMeant, made}
-use Rattle.order_coding.proofs.Places.{place, ordered-once, ordered-contains, take-place, place-take, stands-from_places, places-from_stands, place-same}
-use Rattle.order_coding.proofs.CrashValues.{values_of, length-values, read-in, read-up, read-down, is_before-is, is_before-same}
-use Rattle.order_coding.proofs.Ranks.{true_false}
+use Rattle.order_coding.proofs.GeneralOrders.{place, ordered-once, ordered-contains, take-place, place-take, stands-from_places, places-from_stands, place-same}
+use Rattle.order_coding.proofs.GeneralLiterals.{is_before-is, is_before-same}
+use Rattle.order_coding.proofs.CrashValues.{values_of, length-values, read-in, read-up, read-down}
+use Rattle.order_coding.proofs.GeneralLists.{true_false}
 use Rattle.order_coding.proofs.Transactions.{together}
 
 not-lt : (x y : ℕ) → ltb x y ≡ false → y ≤ x

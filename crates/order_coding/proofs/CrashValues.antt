@@ -12,23 +12,8 @@ use Rattle.clause_store.specs.Truth.{is_true}
 use Rattle.fer_events.specs.Orders.{numbers}
 use Rattle.order_coding.specs.Variables.{IsNumber, order_vars, pair_var, before_lit}
 use Rattle.order_coding.specs.Decoded.{is_in, is_before}
-use Rattle.order_coding.proofs.Lists.{eq-no}
-use Rattle.order_coding.proofs.Numbering.{row_start, row-next, row-le, row-last}
-
-not-below : (a b : ℕ) → b ≤ a → ltb a b ≡ false
-not-below a b h = grind (arith, nat_tests)
-
-pub before_lit-up : (n a b : ℕ) → a < b → before_lit n a b ≡ record { var = pair_var n a b; positive = true }
-before_lit-up n a b h = rw (lt-ltb a b h) refl
-
-pub before_lit-down : (n a b : ℕ) → b < a → before_lit n a b ≡ record { var = pair_var n b a; positive = false }
-before_lit-down n a b h = rw (not-below a b (omega arith)) refl
-
-pub is_before-is : (n : ℕ) (v : List Bool) (a b : ℕ) → a ≢ b → is_before n v a b ≡ is_true v (before_lit n a b)
-is_before-is n v a b ne = rw (eq-no a b ne) refl
-
-pub is_before-same : (n : ℕ) (v : List Bool) (a b : ℕ) → a ≡ b → is_before n v a b ≡ false
-is_before-same n v a b e = rw (eq-eqb a b e) refl
+use Rattle.order_coding.proofs.GeneralLiterals.{before_lit-up, before_lit-down, is_before-is, is_before-same}
+use Rattle.order_coding.proofs.GeneralNumbering.{row_start, row-next, row-le, row-last}
 
 row-before : (n a x : ℕ) → 1 ≤ a → a < x → x ≤ n → row_start n (a + 1) ≤ row_start n x
 row-before n a x h l k =

@@ -10,7 +10,7 @@ use Rattle.fer_events.specs.Orders.{numbers}
 use Rattle.clause_store.proofs.GeneralLists.{Contains-from_filter}
 use Rattle.order_coding.specs.Variables.{IsNumber}
 use Rattle.order_coding.specs.Decoded.{is_in, predecessors, IsDecoded}
-use Rattle.order_coding.proofs.Places.{numbers-within}
+use Rattle.order_coding.proofs.GeneralOrders.{numbers-within}
 
 pub length-inside :
     (n : ℕ) (v : List Bool) (inside : List ℕ) → IsPermutation (filter (is_in v) (numbers n)) inside

@@ -17,15 +17,17 @@ use Rattle.clause_store.proofs.GeneralLists.{Contains-filter, Contains-from_filt
 use Rattle.fer_events.specs.declared.event.Event.{Event}
 use Rattle.fer_events.specs.declared.event.Crash.{Crash}
 use Rattle.fer_events.specs.Orders.{numbers, StandsBefore, before_cut, IsCrash, AreForward}
+use Rattle.order_coding.proofs.GeneralLists.{numbers-increase}
 use Rattle.order_coding.specs.Tournament.{IsTournament, HasNoCycle}
 use Rattle.order_coding.specs.Variables.{IsNumber, before_lit}
 use Rattle.order_coding.specs.Families.{txn_of}
 use Rattle.order_coding.specs.Decoded.{is_in, is_before, predecessors, IsDecoded}
-use Rattle.order_coding.proofs.Lists.{order-of}
+use Rattle.order_coding.proofs.GeneralLists.{order-of}
 use Rattle.order_coding.proofs.Meaning.{AreMeant}
-use Rattle.order_coding.proofs.Places.{times, times-append, ordered-once, place, places-from_stands, numbers-contain, numbers-within, stands-from_reads}
-use Rattle.order_coding.proofs.CrashValues.{is_before-is, is_before-same, before_lit-up, before_lit-down}
-use Rattle.order_coding.proofs.Ranks.{bit_cases, true_false, turned, either, rank-less}
+use Rattle.order_coding.proofs.GeneralOrders.{times, times-append, ordered-once, place, places-from_stands, numbers-contain, numbers-within, stands-from_reads}
+use Rattle.order_coding.proofs.GeneralLiterals.{is_before-is, is_before-same, before_lit-up, before_lit-down}
+use Rattle.order_coding.proofs.GeneralLists.{bit_cases, true_false}
+use Rattle.order_coding.proofs.Ranks.{turned, either, rank-less}
 use Rattle.order_coding.proofs.Transactions.{number-of, txn-is, txns-rise}
 
 -- the literal of two events is the negation of that of the same two the other way round
@@ -148,11 +150,6 @@ module _ (v : List Bool) (events : List Event) (kept : List (ℕ × ℕ)) (m : A
         let far : b + (a - b) ≡ a = omega arith in
         sym (same-step rise (a - b) b ib.0 (omega (arith, ia.1)) (sym same ∙ ap (txn_of events) (sym far)) ∙ ap (is_in v) far)
   ]
-
-numbers-increase : (low n : ℕ) → IsStrictlyIncreasing (range_with_len low n)
-numbers-increase low n = λ k h.
-    let long = length-range_with_len low n in
-    omega (arith, get_or-range_with_len low n k 0 (omega arith), get_or-range_with_len low n (k + 1) 0 (omega arith))
 
 -- what is known of a list of numbers that stands somewhere in a longer one
 stands-left : (xs ys : List ℕ) (a b : ℕ) → StandsBefore xs a b → StandsBefore (xs ++ ys) a b

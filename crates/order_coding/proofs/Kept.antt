@@ -13,7 +13,7 @@ use Rattle.fer_events.specs.Pairs.{PairList, has_pair, IsListed}
 use Rattle.order_coding.specs.Variables.{before_lit}
 use Rattle.order_coding.specs.Families.{kept_pairs}
 use Rattle.order_coding.specs.Writing.{if_kept}
-use Rattle.order_coding.proofs.Lists.{All-from_contains}
+use Rattle.order_coding.proofs.GeneralLists.{All-from_contains}
 
 -- a pair that is found in the list has what all have
 pub found-forward : (n : ℕ) (pairs : List (ℕ × ℕ)) (a b : ℕ) → AreForward n pairs → has_pair pairs a b ≡ true → (1 ≤ a) × (a < b) × (b ≤ n)

@@ -10,8 +10,8 @@ use Rattle.fer_events.specs.declared.event.Event.{Event}
 use Rattle.fer_events.specs.Tables.{Trace, IsTrace, IsEventOf}
 use Rattle.std.proofs.lemmas.List.Folds.{list_all_at}
 use Rattle.order_coding.specs.Marks.{mark_event, mark_txn}
-use Rattle.order_coding.proofs.Lists.{All-from_contains}
-use Rattle.order_coding.proofs.Ranks.{bit_cases, true_false}
+use Rattle.order_coding.proofs.GeneralLists.{All-from_contains}
+use Rattle.order_coding.proofs.GeneralLists.{bit_cases, true_false}
 
 abbrev pub marks : ℕ → ℕ → List Event
 marks joined n = map (λ e. mark_event e (mark_txn joined e)) (range_with_len 1 n)

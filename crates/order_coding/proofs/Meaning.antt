@@ -13,86 +13,10 @@ use Rattle.fer_events.specs.Orders.{numbers}
 use Rattle.order_coding.specs.Variables.{IsNumber, in_lit, before_lit}
 use Rattle.order_coding.specs.Decoded.{is_in}
 use Rattle.order_coding.specs.Families.{kept_pairs, no_cycle, no_cycles, in_before, cut_is_prefix, txn_of, in_together, transactions_whole, order_clauses}
-use Rattle.order_coding.proofs.Lists.{All-from_contains, All-left, All-right, All-flat_map, All-from_flat_map, range_contains, range_within, Any-here, Any-later, Any-cases, Any-nil, eq-no}
-use Rattle.order_coding.proofs.Places.{numbers-contain, numbers-within}
-use Rattle.order_coding.proofs.Ranks.{bit_cases, true_false}
-
-abbrev truth : List Bool → Lit → Type 0
-truth v l = is_true v l ≡ true
-
-negated-true : (v : List Bool) (l : Lit) → is_true v l ≡ false → truth v (negated l)
-negated-true v l e = is_true-negated v l ∙ ap not e
-
-negated-false : {A : Type 0} (v : List Bool) (l : Lit) → truth v (negated l) → truth v l → A
-negated-false v l n t = true_false (is_true v (negated l)) n (is_true-negated v l ∙ ap not t)
-
-of-one : (v : List Bool) (x : Lit) → MakesTrue v (x ∷ []) → truth v x
-of-one v x h = elim (Any-cases (truth v) x [] h) [ inl t ↦ t | inr none ↦ absurd (Any-nil (truth v) none) ]
-
--- one literal follows from another
-of-two : (v : List Bool) (x y : Lit) → MakesTrue v (negated x ∷ y ∷ []) → truth v x → truth v y
-of-two v x y h t = elim (Any-cases (truth v) (negated x) (y ∷ []) h) [
-  | inl n ↦ negated-false v x n t
-  | inr rest ↦ of-one v y rest
-]
-
-two : (v : List Bool) (x y : Lit) → (truth v x → truth v y) → MakesTrue v (negated x ∷ y ∷ [])
-two v x y h = elim (bit_cases (is_true v x)) [
-  | inl t ↦ Any-later (truth v) (negated x) (y ∷ []) (Any-here (truth v) y [] (h t))
-  | inr f ↦ Any-here (truth v) (negated x) (y ∷ []) (negated-true v x f)
-]
-
-back-two : (v : List Bool) (x y : Lit) → MakesTrue v (x ∷ negated y ∷ []) → truth v y → truth v x
-back-two v x y h t = elim (Any-cases (truth v) x (negated y ∷ []) h) [
-  | inl e ↦ e
-  | inr rest ↦ negated-false v y (of-one v (negated y) rest) t
-]
-
-two-back : (v : List Bool) (x y : Lit) → (truth v y → truth v x) → MakesTrue v (x ∷ negated y ∷ [])
-two-back v x y h = elim (bit_cases (is_true v y)) [
-  | inl t ↦ Any-here (truth v) x (negated y ∷ []) (h t)
-  | inr f ↦ Any-later (truth v) x (negated y ∷ []) (Any-here (truth v) (negated y) [] (negated-true v y f))
-]
-
--- a literal follows from two others
-of-three :
-    (v : List Bool) (x y z : Lit) → MakesTrue v (negated x ∷ negated y ∷ z ∷ []) → truth v x → truth v y
-    → truth v z
-of-three v x y z h s t = elim (Any-cases (truth v) (negated x) (negated y ∷ z ∷ []) h) [
-  | inl n ↦ negated-false v x n s
-  | inr rest ↦ of-two v y z rest t
-]
-
-three :
-    (v : List Bool) (x y z : Lit) → (truth v x → truth v y → truth v z)
-    → MakesTrue v (negated x ∷ negated y ∷ z ∷ [])
-three v x y z h = elim (bit_cases (is_true v x)) [
-  | inl t ↦ Any-later (truth v) (negated x) (negated y ∷ z ∷ []) (two v y z (h t))
-  | inr f ↦ Any-here (truth v) (negated x) (negated y ∷ z ∷ []) (negated-true v x f)
-]
-
--- one of two literals is true where a third is
-back-three :
-    (v : List Bool) (x y z : Lit) → MakesTrue v (x ∷ y ∷ negated z ∷ []) → is_true v x ≡ false
-    → is_true v y ≡ false → is_true v z ≡ false
-back-three v x y z h f g = elim (Any-cases (truth v) x (y ∷ negated z ∷ []) h) [
-  | inl e ↦ true_false (is_true v x) e f
-  | inr rest ↦ elim (bit_cases (is_true v z)) [
-    | inl t ↦ true_false (is_true v y) (back-two v y z rest t) g
-    | inr e ↦ e
-  ]
-]
-
-three-back :
-    (v : List Bool) (x y z : Lit) → (is_true v x ≡ false → is_true v y ≡ false → is_true v z ≡ false)
-    → MakesTrue v (x ∷ y ∷ negated z ∷ [])
-three-back v x y z h = elim (bit_cases (is_true v x)) [
-  | inl t ↦ Any-here (truth v) x (y ∷ negated z ∷ []) t
-  | inr f ↦ Any-later (truth v) x (y ∷ negated z ∷ []) (elim (bit_cases (is_true v y)) [
-    | inl t ↦ Any-here (truth v) y (negated z ∷ []) t
-    | inr g ↦ Any-later (truth v) y (negated z ∷ []) (Any-here (truth v) (negated z) [] (negated-true v z (h f g)))
-  ])
-]
+use Rattle.order_coding.proofs.GeneralLists.{All-from_contains, All-left, All-right, All-flat_map, All-from_flat_map, range_contains, range_within, Any-here, Any-later, Any-cases, Any-nil, eq-no}
+use Rattle.order_coding.proofs.GeneralClauses.{truth, negated-true, negated-false, of-one, of-two, two, back-two, two-back, of-three, three, back-three, three-back}
+use Rattle.order_coding.proofs.GeneralOrders.{numbers-contain, numbers-within}
+use Rattle.order_coding.proofs.GeneralLists.{bit_cases, true_false}
 
 pair-all : {A : Type 0} (P : A → Type 0) (x y : A) → P x → P y → All P (x ∷ y ∷ [])
 pair-all P x y h k = All-cons P x (y ∷ []) h (All-cons P y [] k (All-nil P))

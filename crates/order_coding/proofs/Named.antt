@@ -9,10 +9,10 @@ use Rattle.fer_events.specs.declared.event.Event.{Event}
 use Rattle.fer_events.specs.Orders.{numbers, AreForward}
 use Rattle.order_coding.specs.Variables.{IsNumber, order_vars, in_lit, before_lit}
 use Rattle.order_coding.specs.Families.{kept_pairs, no_cycle, no_cycle_with, no_cycle_from, no_cycles, in_before, in_before_each, cut_is_prefix, txn_of, in_together, transactions_whole, order_clauses}
-use Rattle.order_coding.proofs.CrashValues.{before_lit-up, before_lit-down}
-use Rattle.order_coding.proofs.Lists.{All-flat_map, order-of, range_within}
-use Rattle.order_coding.proofs.Numbering.{pair_var_within}
-use Rattle.order_coding.proofs.Places.{numbers-within}
+use Rattle.order_coding.proofs.GeneralLiterals.{in_lit-within, before_lit-within}
+use Rattle.order_coding.proofs.GeneralLists.{All-flat_map, order-of, range_within}
+use Rattle.order_coding.proofs.GeneralNumbering.{pair_var_within}
+use Rattle.order_coding.proofs.GeneralOrders.{numbers-within}
 
 module _ (n : ℕ) where
   abbrev Is : Lit → Type 0
@@ -21,15 +21,11 @@ module _ (n : ℕ) where
   abbrev Are : List (List Lit) → Type 0
   Are = All (All Is)
 
-  in-named : (e : ℕ) → IsNumber n e → Is (in_lit e)
-  in-named e is = (is.0, omega (arith, is.1))
+  abbrev in-named : (e : ℕ) → IsNumber n e → Is (in_lit e)
+  in-named = in_lit-within n
 
-  before-named : (a b : ℕ) → IsNumber n a → IsNumber n b → a ≢ b → Is (before_lit n a b)
-  before-named a b first second ne = elim (order-of a b) [
-    | inl l ↦ subst Is (sym (before_lit-up n a b l)) (pair_var_within n a b first.0 l second.1)
-    | inr (inl same) ↦ absurd (ne same)
-    | inr (inr l) ↦ subst Is (sym (before_lit-down n a b l)) (pair_var_within n b a second.0 l first.1)
-  ]
+  abbrev before-named : (a b : ℕ) → IsNumber n a → IsNumber n b → a ≢ b → Is (before_lit n a b)
+  before-named = before_lit-within n
 
   one : (l : Lit) → Is l → All Is (l ∷ [])
   one l h = All-cons Is l [] h (All-nil Is)

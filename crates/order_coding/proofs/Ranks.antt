@@ -2,15 +2,9 @@
 use Rattle.std.proofs.Common.{◌≡◌, ◌≢◌, ℕ, ◌+◌, ◌<◌, ◌≤◌, ◌⊎◌, inl, inr, List, [], ◌∷◌, Contains, length, Bool, true, false, not, cond, count_by, refl, ap, sym, ◌∙◌, arith}
 use Rattle.std.proofs.lemmas.Bool.{cases_eq}
 use Rattle.std.proofs.lemmas.List.Sums.{sum_by-cons}
+use Rattle.order_coding.proofs.GeneralLists.{bit_cases, true_false}
 use Rattle.order_coding.specs.Tournament.{IsTournament, HasNoCycle, rank}
 use Rattle.clause_store.proofs.GeneralLists.{Contains-head_is, Contains-tail, Contains-cons_cases, Contains-nil}
-
-pub bit_cases : (b : Bool) → (b ≡ true) ⊎ (b ≡ false)
-bit_cases true = inl refl
-bit_cases false = inr refl
-
-pub true_false : {A : Type 0} (b : Bool) → b ≡ true → b ≡ false → A
-true_false b t f = let bad : true ≡ false = sym t ∙ f in cc
 
 pub count-cons : (p : ℕ → Bool) (x : ℕ) (xs : List ℕ) → count_by p (x ∷ xs) ≡ cond (p x) 1 0 + count_by p xs
 count-cons p x xs = sum_by-cons (λ y. cond (p y) 1 0) x xs

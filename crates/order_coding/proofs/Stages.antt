@@ -6,8 +6,8 @@ use Rattle.fer_events.specs.declared.event.Event.{Event}
 use Rattle.order_coding.specs.Variables.{order_vars}
 use Rattle.order_coding.specs.Families.{kept_pairs, no_cycles, cut_is_prefix, transactions_whole, order_clauses, order_formula}
 use Rattle.order_coding.specs.Growth.{IsBeginning}
-use Rattle.order_coding.specs.Writing.{joined}
-use Rattle.order_coding.proofs.Grows.{beginning-joined, beginning-same}
+use Rattle.order_coding.specs.Growth.{joined}
+use Rattle.order_coding.proofs.GeneralGrowth.{beginning-joined, beginning-same}
 
 module _ (events : List Event) (kept : List (ℕ × ℕ)) where
   abbrev count : ℕ

@@ -8,3 +8,7 @@ pub record IsBeginning (formula whole : Formula) : Type 0 where
   pub vars : formula.vars ≡ whole.vars
   pub rest : List (List Lit)
   pub clauses : whole.clauses ≡ formula.clauses ++ rest
+
+-- the formula with these clauses behind its own
+abbrev pub joined : Formula → List (List Lit) → Formula
+joined formula more = record formula { clauses = formula.clauses ++ more }

@@ -1,5 +1,4 @@
--- Private: how clauses are written behind others, those of kept pairs row by row. Only the contracts of private functions
--- cite it.
+-- Private: the clauses of kept pairs, row by row. Only the contracts of private functions cite it.
 use Rattle.std.specs.Prelude.{ℕ, List, [], ◌∷◌, ◌++◌, if◌then◌else◌}
 use Rattle.std.specs.List.{flat_map}
 use Rattle.clause_store.specs.declared.Lit.{Lit}
@@ -7,10 +6,6 @@ use Rattle.clause_store.specs.Clauses.{Formula}
 use Rattle.fer_events.specs.Orders.{numbers}
 use Rattle.fer_events.specs.Pairs.{has_pair}
 use Rattle.order_coding.specs.Variables.{before_lit}
-
--- the formula with these clauses behind its own
-abbrev pub joined : Formula → List (List Lit) → Formula
-joined formula more = record formula { clauses = formula.clauses ++ more }
 
 -- the clause of the pair (a, b), if it is kept
 abbrev pub if_kept : ℕ → List (ℕ × ℕ) → ℕ → ℕ → List (List Lit)

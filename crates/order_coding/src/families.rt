@@ -4,7 +4,8 @@ ghost use Rattle.fer_events.specs.Pairs.{has_pair};
 ghost use Rattle.fer_events.specs.declared.event.Crash.{Crash};
 ghost use Rattle.order_coding.specs.Variables.{IsNumber, order_vars, in_lit};
 ghost use Rattle.order_coding.specs.Families.{no_cycle, no_cycle_with, no_cycle_from, no_cycles, in_before, in_before_each, cut_is_prefix, in_together, transactions_whole, kept_pairs, txn_of, order_formula};
-ghost use Rattle.order_coding.specs.Writing.{if_kept, if_kept_each, joined};
+ghost use Rattle.order_coding.specs.Growth.{joined};
+ghost use Rattle.order_coding.specs.Writing.{if_kept, if_kept_each};
 ghost use Rattle.order_coding.specs.Decoded.{HasValues};
 ghost use Rattle.order_coding.specs.Growth.{IsBeginning};
 

@@ -1,17 +1,17 @@
 //! Laws of the coding, for every number of events. Each function does nothing: its contract is the law.
 
-ghost use Rattle.std.specs.Prelude.{◌≡◌, ◌↔◌, ℕ, ◌<◌, Bool, true, List, [], ◌++◌, length};
+ghost use Rattle.std.specs.Prelude.{◌≡◌, ◌↔◌, ℕ, ◌<◌, ◌≤◌, Bool, true, List, [], ◌++◌, length, drop, IsPermutation};
 ghost use Rattle.std.specs.List.{All, Contains};
-ghost use Rattle.std.specs.List.Sorted.{IsNonDecreasingBy};
+ghost use Rattle.std.specs.List.Sorted.{IsNonDecreasingBy, IsStrictlyIncreasing};
 ghost use Rattle.clause_store.specs.Clauses.{InVars};
 ghost use Rattle.clause_store.specs.Truth.{MakesAllTrue};
 ghost use Rattle.fer_events.specs.declared.event.Event.{Event};
 ghost use Rattle.fer_events.specs.declared.event.Crash.{Crash};
-ghost use Rattle.fer_events.specs.Orders.{before_cut, AreForward, IsCrash, StandsBefore};
+ghost use Rattle.fer_events.specs.Orders.{numbers, before_cut, AreForward, IsCrash, StandsBefore};
 ghost use Rattle.order_coding.specs.Tournament.{IsTournament, HasNoCycle, rank};
 ghost use Rattle.order_coding.specs.Variables.{IsNumber, order_vars};
 ghost use Rattle.order_coding.specs.Families.{kept_pairs, order_clauses, order_formula};
-ghost use Rattle.order_coding.specs.Decoded.{is_in, is_before, IsDecoded, HasValues};
+ghost use Rattle.order_coding.specs.Decoded.{is_in, is_before, IsDecoded, Describes, HasValues};
 
 /// A choice of one direction for each two numbers, without cycles of three, is a linear order, and the number of
 /// predecessors is the place in it.
@@ -36,6 +36,10 @@ pub fn crashes_have_values()
 
 /// Values that make the clauses true describe the crash that is decoded of them, as far as the cut.
 pub fn decoded_crashes_are_described()
+    ensures order { (events : List Event) (values : List Bool) (crash : Crash) → IsDecoded (length events) values crash
+        → IsPermutation (numbers (length events)) crash.order }
+    ensures ascends { (events : List Event) (values : List Bool) (crash : Crash) → IsDecoded (length events) values crash
+        → IsStrictlyIncreasing (drop crash.cut crash.order) }
     ensures inside { (events : List Event) (values : List Bool) (crash : Crash) → IsDecoded (length events) values crash
         → (e : ℕ) → IsNumber (length events) e → (is_in values e ≡ true) ↔ Contains (before_cut crash) e }
     ensures before { (events : List Event) (kept : List (ℕ × ℕ)) (values : List Bool) (crash : Crash)
@@ -50,6 +54,12 @@ pub fn decoded_crashes_are_crashes()
     ensures { (events : List Event) (kept : List (ℕ × ℕ)) (values : List Bool) (crash : Crash)
         → IsNonDecreasingBy (λ e. e.txn) events → AreForward (length events) kept
         → MakesAllTrue values (order_clauses events kept) → IsDecoded (length events) values crash → IsCrash events kept crash }
+{}
+
+/// Values for further variables describe the same crash.
+pub fn longer_values_describe_the_same()
+    ensures { (n : ℕ) (values more : List Bool) (crash : Crash) → order_vars n ≤ length values
+        → Describes n values crash → Describes n (values ++ more) crash }
 {}
 
 /// Each clause is over the coding's variables.

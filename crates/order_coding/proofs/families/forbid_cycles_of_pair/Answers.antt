@@ -1,7 +1,7 @@
 use Rattle.std.proofs.Common.{◌+◌, ◌-◌, arith}
 use Rattle.std.proofs.lemmas.Result.{err_from_is_err_and}
 use Rattle.order_coding.specs.Families.{no_cycle}
-use Rattle.order_coding.proofs.Grows.{grown-more, grown-part}
+use Rattle.order_coding.proofs.GeneralGrowth.{grown-more, grown-part}
 use Rattle.order_coding.proofs.families.forbid_cycles_of_pair.Goals as goal
 
 pub loop-c-preserved : goal.loop-c-preserved

@@ -1,7 +1,7 @@
 use Rattle.std.proofs.Common.{◌≡◌, ◌+◌, ◌-◌}
 use Rattle.std.specs.List.{flat_map, range_with_len}
 use Rattle.order_coding.specs.Families.{no_cycle}
-use Rattle.order_coding.specs.Writing.{joined}
+use Rattle.order_coding.specs.Growth.{joined}
 use Rattle.order_coding.proofs.families.forbid_cycles_of_pair.Given as goal
 
 abbrev pub invariant-loop-c : goal.invariant-loop-c

@@ -1,8 +1,9 @@
 use Rattle.std.proofs.Common.{◌∙◌, ap, arith}
 use Rattle.std.specs.List.{flat_map, range_with_len}
 use Rattle.std.proofs.lemmas.Result.{err_from_is_err_and}
-use Rattle.order_coding.specs.Writing.{if_kept, joined}
-use Rattle.order_coding.proofs.Grows.{grown-more, grown-part, grown-all, beginning-same}
+use Rattle.order_coding.specs.Growth.{joined}
+use Rattle.order_coding.specs.Writing.{if_kept}
+use Rattle.order_coding.proofs.GeneralGrowth.{grown-more, grown-part, grown-all, beginning-same}
 use Rattle.order_coding.proofs.Kept.{kept-rows}
 use Rattle.order_coding.proofs.families.keep_pairs.Goals as goal
 

@@ -1,6 +1,7 @@
 use Rattle.std.proofs.Common.{◌≡◌, ◌-◌}
 use Rattle.std.specs.List.{flat_map, range_with_len}
-use Rattle.order_coding.specs.Writing.{if_kept, joined}
+use Rattle.order_coding.specs.Growth.{joined}
+use Rattle.order_coding.specs.Writing.{if_kept}
 use Rattle.order_coding.proofs.families.keep_pairs.Given as goal
 
 abbrev pub invariant-loop-a : goal.invariant-loop-a

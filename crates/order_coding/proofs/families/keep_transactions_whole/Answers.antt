@@ -1,7 +1,7 @@
 use Rattle.std.proofs.Common.{◌-◌, length, arith}
 use Rattle.std.proofs.lemmas.Result.{err_from_is_err_and}
 use Rattle.order_coding.specs.Families.{in_together}
-use Rattle.order_coding.proofs.Grows.{grown-more, grown-part, grown-all}
+use Rattle.order_coding.proofs.GeneralGrowth.{grown-more, grown-part, grown-all}
 use Rattle.order_coding.proofs.families.keep_transactions_whole.Goals as goal
 
 pub loop-e-preserved : goal.loop-e-preserved

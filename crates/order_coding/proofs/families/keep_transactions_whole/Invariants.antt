@@ -1,7 +1,7 @@
 use Rattle.std.proofs.Common.{◌≡◌, ◌+◌, ◌-◌, ◌≤◌, length}
 use Rattle.std.specs.List.{flat_map, range_with_len}
 use Rattle.order_coding.specs.Families.{in_together}
-use Rattle.order_coding.specs.Writing.{joined}
+use Rattle.order_coding.specs.Growth.{joined}
 use Rattle.order_coding.proofs.families.keep_transactions_whole.Given as goal
 
 abbrev pub invariant-loop-e : goal.invariant-loop-e

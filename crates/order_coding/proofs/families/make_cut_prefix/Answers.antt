@@ -2,7 +2,7 @@ use Rattle.std.proofs.Common.{arith}
 use Rattle.std.specs.List.{flat_map, range_with_len}
 use Rattle.std.proofs.lemmas.Result.{err_from_is_err_and}
 use Rattle.order_coding.specs.Families.{in_before}
-use Rattle.order_coding.proofs.Grows.{grown-more, grown-part}
+use Rattle.order_coding.proofs.GeneralGrowth.{grown-more, grown-part}
 use Rattle.order_coding.proofs.families.make_cut_prefix.Goals as goal
 
 pub loop-a-preserved : goal.loop-a-preserved

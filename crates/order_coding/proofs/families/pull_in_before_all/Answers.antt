@@ -1,7 +1,7 @@
 use Rattle.std.proofs.Common.{arith}
 use Rattle.std.proofs.lemmas.Result.{err_from_is_err_and}
 use Rattle.order_coding.specs.Families.{in_before}
-use Rattle.order_coding.proofs.Grows.{grown-more, grown-part}
+use Rattle.order_coding.proofs.GeneralGrowth.{grown-more, grown-part}
 use Rattle.order_coding.proofs.families.pull_in_before_all.Goals as goal
 
 pub loop-b-preserved : goal.loop-b-preserved

@@ -1,7 +1,7 @@
 use Rattle.std.proofs.Common.{◌≡◌, ◌-◌}
 use Rattle.std.specs.List.{flat_map, range_with_len}
 use Rattle.order_coding.specs.Families.{in_before}
-use Rattle.order_coding.specs.Writing.{joined}
+use Rattle.order_coding.specs.Growth.{joined}
 use Rattle.order_coding.proofs.families.pull_in_before_all.Given as goal
 
 abbrev pub invariant-loop-b : goal.invariant-loop-b

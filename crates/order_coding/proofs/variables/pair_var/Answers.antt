@@ -1,4 +1,4 @@
-use Rattle.order_coding.proofs.Numbering.{pair_var_within}
+use Rattle.order_coding.proofs.GeneralNumbering.{pair_var_within}
 use Rattle.order_coding.proofs.variables.pair_var.Goals as goal
 
 pub returns-clause-there : goal.returns-clause-there

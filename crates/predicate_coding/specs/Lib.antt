@@ -1,0 +1,9 @@
+pub mod Asking
+pub mod CellChoices
+pub mod Fits
+pub mod AtomNodes
+pub mod Nodes
+pub mod Coding
+pub mod Parts
+pub mod Examples
+pub mod Growing

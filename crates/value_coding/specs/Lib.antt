@@ -1,0 +1,17 @@
+pub mod Cells
+pub mod Runs
+pub mod Writers
+pub mod LastWriter
+pub mod Undivided
+pub mod Readings
+pub mod Segments
+pub mod QuestionCells
+pub mod LastClauses
+pub mod CodedCells
+pub mod LastWriting
+pub mod Marks
+pub mod CellLists
+pub mod WordMarks
+pub mod Examples
+pub mod Texts
+pub mod TextPlaces
