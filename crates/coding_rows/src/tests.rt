@@ -72,6 +72,12 @@ const CUT: &[u8] =
 const TWO_SEGMENTS: &[u8] =
     b"litmus c\nsetup:\n  create /f\n  write /f 0 \"xx\"\nbody:\n  write /f 0 \"a\"\nexists: content(/f) = \"ax\"\n";
 
+const ONE_SEGMENT: &[u8] =
+    b"litmus j\nsetup:\n  create /f\n  write /f 0 \"xxxx\"\nbody:\n  write /f 0 \"aaaa\"\nexists: content(/f) = \"aaaa\"\n";
+
+const THREE_SEGMENTS: &[u8] =
+    b"litmus k\nsetup:\n  create /f\n  write /f 0 \"xxxx\"\nbody:\n  write /f 0 \"aaaa\"\n  write /f 1 \"b\"\nexists: content(/f) = \"abaa\"\n";
+
 const NO_KEY: &[u8] =
     b"litmus d\nsetup:\n  create /f\nbody:\n  mark m\nexists: attr(/f, color) = 1\n";
 
@@ -102,6 +108,17 @@ const CUT_CLAUSES: &[i64] = &[
 const TWO_SEGMENTS_CLAUSES: &[i64] = &[
     2, 0, 3, 0, 4, 5, 0, -5, 1, 0, -4, -1, 0, 6, 0, -7, -4, 0, 7, 4, 0, -2, -7, 8, 0, -2, 7, -8, 0,
     8, 0,
+];
+
+const ONE_SEGMENT_CLAUSES: &[i64] = &[
+    2, 0, 3, 0, 4, 5, 0, -5, 1, 0, -4, -1, 0, -6, -4, 0, 6, 4, 0, -2, -6, 7, 0, -2, 6, -7, 0, 7, 0,
+];
+
+const THREE_SEGMENTS_CLAUSES: &[i64] = &[
+    -2, -3, 1, 0, -1, 3, 2, 0, 4, 0, 5, 0, 6, 7, 0, -7, 1, 0, -6, -1, 0, 8, 9, 10, 0, -9, 1, 0, -9,
+    -2, -3, 0, -10, 2, 0, -10, -1, 3, 0, -8, -1, 0, -8, -2, 0, 11, 12, 0, -12, 1, 0, -11, -1, 0,
+    -13, -6, 0, -13, -8, 0, -13, -9, 0, -13, -11, 0, 13, 6, 8, 9, 11, 0, -4, -13, 14, 0, -4, 13,
+    -14, 0, 14, 0,
 ];
 
 const NO_KEY_CLAUSES: &[i64] = &[2, 0, -3, 0, -2, -3, 4, 0, -2, 3, -4, 0, 4, 0];
@@ -136,12 +153,15 @@ fn slots_and_sizes(rt: HostRuntime) -> Result<(), Fail> {
     Ok(())
 }
 
-// Two segments, of which the write has the first alone; a key that no call uses; a key that is 7 at the start and 5 by the
+// Two segments, of which the write has the first alone; one segment of four bytes, which is three, of one, one and two
+// bytes, once a second call writes a byte in its middle; a key that no call uses; a key that is 7 at the start and 5 by the
 // event.
 #[test]
 fn segments_and_attributes(rt: HostRuntime) -> Result<(), Fail> {
     let alloc = rt.alloc();
     assert!(rt; row(alloc, TWO_SEGMENTS, 8, TWO_SEGMENTS_CLAUSES)?);
+    assert!(rt; row(alloc, ONE_SEGMENT, 7, ONE_SEGMENT_CLAUSES)?);
+    assert!(rt; row(alloc, THREE_SEGMENTS, 14, THREE_SEGMENTS_CLAUSES)?);
     assert!(rt; row(alloc, NO_KEY, 4, NO_KEY_CLAUSES)?);
     assert!(rt; row(alloc, A_KEY, 6, A_KEY_CLAUSES)?);
     Ok(())

@@ -24,3 +24,21 @@ fn a_line_says(rt: HostRuntime) -> Result<(), Fail> {
     assert_eq!(rt; said.len(), 65536);
     Ok(())
 }
+
+#[test]
+fn parentheses_are_counted(rt: HostRuntime) -> Result<(), Fail> {
+    let mut line = Vec::new(rt.alloc());
+    line.push(b')')?;
+    for _ in 0..64 {
+        line.push(b'(')?;
+    }
+    let most = lexemes(rt.alloc(), line.as_slice())?;
+    assert!(rt; !is_deep(most.as_slice()));
+    line.push(b'(')?;
+    let too_many = lexemes(rt.alloc(), line.as_slice())?;
+    assert!(rt; is_deep(too_many.as_slice()));
+    assert!(rt; behind_word(most.as_slice(), b"let").is_none());
+    let stated = lexemes(rt.alloc(), b"let x")?;
+    assert!(rt; matches!(behind_word(stated.as_slice(), b"let"), Some(rest) if rest.len() == 1));
+    Ok(())
+}

@@ -11,7 +11,8 @@ use Rattle.litmus_syntax.specs.Counts.{atom_words}
 use Rattle.litmus_syntax.specs.Test.{Test}
 use Rattle.lexeme_reader.specs.declared.reading.Lexeme.{Lexeme}
 use Rattle.lexeme_reader.specs.Lexemes.{is_formed}
-use Rattle.predicate_reader.specs.Counts.{IsShort, text_size, word_count, most_open}
+use Rattle.lexeme_reader.specs.Parentheses.{most_open}
+use Rattle.predicate_reader.specs.Counts.{IsShort, text_size, word_count}
 use Rattle.litmus_reader.specs.declared.stages.Stage.{Stage}
 use Rattle.litmus_reader.specs.declared.stages.Stage.TheVariants.{Start, InSetup, InBody}
 use Rattle.litmus_reader.specs.declared.draft.Draft.{Draft}

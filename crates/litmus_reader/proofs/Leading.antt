@@ -11,7 +11,7 @@ use Rattle.lexeme_reader.specs.Lexemes.{narrowed}
 use Rattle.litmus_reader.specs.Keywords.{keyword_text}
 use Rattle.litmus_reader.specs.Statements.{Statement, Head, Block, Sector, Setup, Body, Called, Question, number, call_lexemes, statement_lexemes}
 use Rattle.litmus_reader.specs.Read.{numberless_call, numberless}
-use Rattle.predicate_reader.proofs.General.{tokens_equal}
+use Rattle.lexeme_reader.proofs.GeneralTokens.{tokens_equal}
 use Rattle.litmus_reader.proofs.Narrow.{narrow_is, wide_is}
 use Rattle.predicate_reader.specs.Predicates.{AreInRange}
 

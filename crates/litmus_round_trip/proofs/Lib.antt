@@ -1,7 +1,6 @@
 pub mod Atoms
 pub mod Calls
 pub mod Files
-pub mod Induction
 pub mod Lines
 pub mod Nesting
 pub mod Paths

@@ -6,7 +6,8 @@ use Rattle.std.proofs.lemmas.List.Sums.{sum_by-append}
 use Rattle.std.proofs.lemmas.List.Elements.{filter-append}
 use Rattle.lexeme_reader.specs.declared.reading.Lexeme.{Lexeme}
 use Rattle.lexeme_reader.specs.declared.reading.Lexeme.TheVariants.{Word, Number, Path, Text, Sign}
-use Rattle.predicate_reader.specs.Counts.{is_word_of, word_count, text_size, depth_behind, most_open}
+use Rattle.lexeme_reader.specs.Parentheses.{depth_behind, most_open}
+use Rattle.predicate_reader.specs.Counts.{is_word_of, word_count, text_size}
 
 -- how many parentheses are open behind tokens, of as many before them
 abbrev pub open_after : ℕ → List Lexeme → ℕ

@@ -22,7 +22,7 @@ use Rattle.litmus_round_trip.proofs.Lines.{Visible, seen_both}
 use Rattle.litmus_round_trip.proofs.Nesting.{nested_word, nested_joined, texts_joined, words_joined, small_joined}
 use Rattle.litmus_round_trip.proofs.Written.{IsWritten, loosen, written_operand}
 use Rattle.litmus_round_trip.proofs.Atoms.{three, true_written, false_written, exists_written, same_written, size_written, content_written, bytes_written, attr_written, seen_written}
-use Rattle.litmus_round_trip.proofs.Induction.{Steps, by_steps}
+use Rattle.litmus_syntax.proofs.GeneralPredicates.{Steps, by_steps}
 
 -- what holds of a predicate whose parts are formed
 record IsRead (p : Pred) : Type 0 where

@@ -1,3 +1,4 @@
+pub mod GeneralPredicates
 pub mod Inserting
 mod Placing
 mod SameTexts

@@ -25,4 +25,4 @@ pub use limits::{
 pub use litmus::Litmus;
 pub use pred::{Binding, Pred};
 pub use printing::{print, push_number, push_path};
-pub use site::{Site, body_with_sites, insert};
+pub use site::{Site, SiteKind, body_with_sites, insert};

@@ -15,6 +15,17 @@ pub struct Site {
     pub call: Call,
 }
 
+/// Which syncs are tried behind the calls of a body.
+#[derive(Clone, Copy, Debug)]
+pub enum SiteKind {
+    /// `fsync` of each file and directory that the body has touched.
+    Fsync,
+    /// `sync` alone.
+    Sync,
+    /// Both, the `fsync` of a call before its `sync`.
+    All,
+}
+
 /// Copies of the steps.
 fn copy_steps(alloc: Global, steps: &[Step]) -> Result<Seq<Step>, AllocError>
     ensures { IfOk result (λ copies. copies ≡ steps.now) }

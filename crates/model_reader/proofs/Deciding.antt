@@ -4,7 +4,7 @@ use Rattle.std.proofs.lemmas.Bool.{cases_Bool, cases_lt}
 use Rattle.std.proofs.lemmas.Slice.Eq.{bytes_eq-Decides}
 use Rattle.lexeme_reader.specs.declared.reading.Lexeme.{Lexeme}
 use Rattle.lexeme_reader.specs.declared.reading.Lexeme.TheVariants.{Word}
-use Rattle.predicate_reader.specs.Counts.{most_open}
+use Rattle.lexeme_reader.specs.Parentheses.{most_open}
 use Rattle.line_files.specs.StatedLines.{Stated, stated_in, statements}
 use Rattle.line_files.specs.FirstFaults.{IsFirst, IsSound, AreSound}
 use Rattle.line_files.specs.Refusals.{IsUnended}

@@ -3,7 +3,7 @@ use Rattle.std.proofs.Common.{◌≡◌, ◌⊎◌, ℕ, ◌<◌, ◌≤◌, tru
 use Rattle.lexeme_reader.specs.declared.reading.Lexeme.{Lexeme}
 use Rattle.lexeme_reader.specs.declared.reading.Lexeme.TheVariants.{Word, Sign}
 use Rattle.line_files.specs.StatedLines.{Stated, statements}
-use Rattle.predicate_reader.specs.Counts.{most_open}
+use Rattle.lexeme_reader.specs.Parentheses.{most_open}
 use Rattle.model_reader.specs.declared.draft.Draft.{Draft}
 use Rattle.model_reader.specs.Statements.{Statement, Head, Let, Keep, End, statement_lexemes}
 use Rattle.model_reader.specs.Faults.{Begin, AreTooMany}

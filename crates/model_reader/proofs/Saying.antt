@@ -2,7 +2,7 @@
 use Rattle.std.proofs.Common.{◌≡◌, ◌⊎◌, ◌<◌, List, [], ◌∷◌, refl, sym, ◌∙◌, ap, subst, inl, inr}
 use Rattle.std.proofs.lemmas.List.Elements.{All-nil, All-cons, All-weaker}
 use Rattle.lexeme_reader.specs.declared.reading.Lexeme.{Lexeme}
-use Rattle.predicate_reader.specs.Counts.{most_open}
+use Rattle.lexeme_reader.specs.Parentheses.{most_open}
 use Rattle.line_files.specs.FirstFaults.{IsFirst, IsSound}
 use Rattle.model_reader.specs.declared.fault.ModelKind.{ModelKind}
 use Rattle.model_reader.specs.declared.fault.ModelKind.TheVariants.{BadByte, BadToken, BadLine, UnknownName, NameTaken, UnknownKind, TooDeep, EndsEarly, TooMany, TooLong}

@@ -3,7 +3,7 @@ use Rattle.std.proofs.Common.{◌≡◌, ◌⊎◌, ℕ, true, false, List, [], 
 use Rattle.std.proofs.lemmas.Option.{none-some, same_Some}
 use Rattle.lexeme_reader.specs.declared.reading.Lexeme.{Lexeme}
 use Rattle.lexeme_reader.specs.declared.reading.Lexeme.TheVariants.{Word, Number, Sign}
-use Rattle.predicate_reader.proofs.General.{tokens_equal}
+use Rattle.lexeme_reader.proofs.GeneralTokens.{tokens_equal}
 use Rattle.model_reader.specs.Words.{looked_up}
 use Rattle.model_reader.specs.Statements.{Statement, Head, Let, Keep, End, statement_lexemes}
 

@@ -3,7 +3,7 @@ use Rattle.std.specs.Prelude.{◌≡◌, ◌≢◌, ◌⊎◌, ℕ, ◌<◌, ◌
 use Rattle.std.specs.List.{Contains}
 use Rattle.lexeme_reader.specs.declared.reading.Lexeme.{Lexeme}
 use Rattle.lexeme_reader.specs.declared.reading.Lexeme.TheVariants.{Word}
-use Rattle.predicate_reader.specs.Counts.{most_open}
+use Rattle.lexeme_reader.specs.Parentheses.{most_open}
 use Rattle.model_reader.specs.declared.expr.Expr.{Expr}
 use Rattle.model_reader.specs.declared.fault.ModelKind.{ModelKind}
 use Rattle.model_reader.specs.declared.fault.ModelKind.TheVariants.{BadLine, UnknownName, NameTaken, UnknownKind, TooDeep, TooMany}

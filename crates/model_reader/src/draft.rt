@@ -15,14 +15,13 @@ ghost use Rattle.model_reader.specs.Drafts.{statement_of, IsValue, IsValueFault,
 use crate::expr::Expr;
 use crate::fault::ModelKind;
 use crate::model::{Definition, Model};
-use crate::statements::{Said, behind_word, said_by};
+use crate::statements::{Said, said_by};
 use crate::values::value_of;
 use crate::words::{Vocabulary, word_of};
 use fer_list::Seq;
-use lexeme_reader::Lexeme;
+use lexeme_reader::{Lexeme, behind_word, is_deep};
 use line_files::{LineFault, SharedFault, TakeLine};
 use litmus_syntax::{Text, copy_text};
-use predicate_reader::is_deep;
 use std::alloc::Global;
 
 /// The most definitions, and the most kept expressions.

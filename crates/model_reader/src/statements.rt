@@ -4,7 +4,7 @@ ghost use Rattle.lexeme_reader.specs.declared.reading.Lexeme.TheVariants as says
 ghost use Rattle.model_reader.specs.Statements.{Statement, statement_lexemes};
 ghost use Rattle.model_reader.specs.Drafts.{statement_of};
 
-use lexeme_reader::Lexeme;
+use lexeme_reader::{Lexeme, behind_word};
 use litmus_syntax::Text;
 
 /// What a line states.
@@ -17,18 +17,6 @@ pub enum Said<'a> {
     /// The tokens that have to be an expression.
     Keep(&'a [Lexeme]),
     End,
-}
-
-/// The tokens behind this word, if they begin with it.
-pub fn behind_word<'a>(lexemes: &'a [Lexeme], word: &[u8]) -> Option<&'a [Lexeme]>
-    ensures { MatchOption result
-        ((rest : List Lexeme) → lexemes.now ≡ says.Word word.now ∷ rest → ⊥)
-        (λ rest. lexemes.now ≡ says.Word word.now ∷ rest.now) }
-{
-    match lexemes.split_first() {
-        Some((Lexeme::Word(first), rest)) if first.as_slice() == word => Some(rest),
-        _ => None,
-    }
 }
 
 /// The name at the front, and the tokens behind the `=` that follows it.

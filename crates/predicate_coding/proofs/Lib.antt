@@ -11,7 +11,6 @@ pub mod CandidateRows
 pub mod PathNodes
 pub mod SeenNodes
 pub mod SameNodes
-pub mod Induction
 pub mod Questions
 pub mod Known
 pub mod Central

@@ -22,7 +22,7 @@ use Rattle.value_coding.specs.declared.cell.CodedCell.{CodedCell}
 use Rattle.predicate_coding.specs.AtomNodes.{Node, path_node}
 use Rattle.predicate_coding.specs.Nodes.{node, and_clauses, or_clauses}
 use Rattle.predicate_coding.proofs.Folds.{node-True, node-False, node-Exists, node-Same, node-SizeIs, node-ContentIs, node-BytesAre, node-AttrIs, node-Seen, node-Not, node-And, node-Or, truth-True, truth-False, truth-Exists, truth-Same, truth-SizeIs, truth-ContentIs, truth-BytesAre, truth-AttrIs, truth-Seen, truth-Not, truth-And, truth-Or}
-use Rattle.predicate_coding.proofs.Induction.{Steps, by_steps}
+use Rattle.litmus_syntax.proofs.GeneralPredicates.{Steps, by_steps}
 use Rattle.predicate_coding.proofs.Meets.{parts_of}
 use Rattle.predicate_coding.proofs.Told.{Knows}
 use Rattle.predicate_coding.proofs.Made.{Says, IsMade, always-says, never-says, not_node-says, two_node-says, and-says, or-says, always-made, never-made, not_node-made, two_node-made, and-made, or-made}

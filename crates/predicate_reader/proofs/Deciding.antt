@@ -8,7 +8,7 @@ use Rattle.litmus_syntax.specs.declared.pred.Pred.TheVariants as pred
 use Rattle.lexeme_reader.specs.declared.reading.Lexeme.{Lexeme}
 use Rattle.lexeme_reader.specs.declared.reading.Lexeme.TheVariants.{Word, Number, Path, Text, Sign}
 use Rattle.predicate_reader.specs.Predicates.{IsAtom, IsExpression, IsPredicate}
-use Rattle.predicate_reader.proofs.General.{Decided, lexemes, tokens_equal}
+use Rattle.lexeme_reader.proofs.GeneralTokens.{Decided, lexemes, tokens_equal}
 
 -- what tokens of an atom's form name
 word_in : Lexeme → List ℕ

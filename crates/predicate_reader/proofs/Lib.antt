@@ -1,10 +1,8 @@
 pub mod AtomFronts
 pub mod AtomWords
 pub mod Deciding
-pub mod Depths
 pub mod Folds
 pub mod FrontLaws
-pub mod General
 pub mod Kept
 pub mod Suffixes
 pub mod Reading

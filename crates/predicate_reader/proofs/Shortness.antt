@@ -10,11 +10,12 @@ use Rattle.litmus_syntax.specs.declared.pred.Pred.TheVariants as pred
 use Rattle.litmus_syntax.specs.Counts.{Counts, IsShortPred, atom_words, counted, counts, counts_of, operand_depth}
 use Rattle.lexeme_reader.specs.declared.reading.Lexeme.{Lexeme}
 use Rattle.lexeme_reader.specs.declared.reading.Lexeme.TheVariants.{Word, Number, Text, Sign}
-use Rattle.predicate_reader.specs.Counts.{IsShort, is_word_of, word_count, text_size, most_open}
+use Rattle.lexeme_reader.specs.Parentheses.{most_open}
+use Rattle.predicate_reader.specs.Counts.{IsShort, is_word_of, word_count, text_size}
 use Rattle.litmus_syntax.specs.declared.pred.Binding.{Binding}
 use Rattle.litmus_syntax.specs.declared.pred.Binding.TheVariants.{Disjunction, Conjunction, Operand}
 use Rattle.predicate_reader.specs.Predicates.{IsAtom, IsExpression, IsPredicate}
-use Rattle.predicate_reader.proofs.Depths.{most_open_front}
+use Rattle.lexeme_reader.proofs.Depths.{most_open_front}
 use Rattle.predicate_reader.proofs.Folds.{fold_true, fold_false, fold_exists, fold_same, fold_size, fold_content, fold_bytes, fold_attr, fold_seen, fold_not, fold_and, fold_or}
 
 -- how many bytes the texts have together

@@ -1,9 +1,10 @@
 -- What is counted of a question, so that it isn't too long.
-use Rattle.std.specs.Prelude.{ℕ, suc, ◌-◌, ◌≤◌, Bool, false, ◌==◌, if◌then◌else◌, List, [], ◌∷◌, length, map, filter, sum, max, bytes_eq, codes}
+use Rattle.std.specs.Prelude.{ℕ, ◌≤◌, Bool, false, List, [], ◌∷◌, length, map, filter, sum, bytes_eq, codes}
 use Rattle.std.specs.List.{list_any}
 use Rattle.litmus_syntax.specs.Counts.{atom_words}
 use Rattle.lexeme_reader.specs.declared.reading.Lexeme.{Lexeme}
 use Rattle.lexeme_reader.specs.declared.reading.Lexeme.TheVariants.{Word, Number, Path, Text, Sign}
+use Rattle.lexeme_reader.specs.Parentheses.{most_open}
 
 -- the token is one of these words, wherever it stands
 abbrev pub is_word_of : List (List ℕ) → Lexeme → Bool
@@ -24,19 +25,6 @@ text_size (Number n) = 0
 text_size (Path path) = 0
 text_size (Text text) = length text
 text_size (Sign sign) = 0
-
--- how many parentheses are open behind a token, of as many before it; a `)` closes one where one is open
-abbrev pub depth_behind : ℕ → Lexeme → ℕ
-depth_behind depth (Word word) = depth
-depth_behind depth (Number n) = depth
-depth_behind depth (Path path) = depth
-depth_behind depth (Text text) = depth
-depth_behind depth (Sign sign) = if sign == 40 then suc depth else (if sign == 41 then depth - 1 else depth)
-
--- the most parentheses that are open at one place, so many of them from before
-abbrev pub most_open : ℕ → List Lexeme → ℕ
-most_open depth [] = depth
-most_open depth (lexeme ∷ lexemes) = max depth (most_open (depth_behind depth lexeme) lexemes)
 
 -- a question that isn't too long: its texts have 4,096 bytes at most, it has at most 256 words that atoms begin with and
 -- at most 256 words `not`, and at no place are more than 64 parentheses open

@@ -1,11 +1,11 @@
 ghost use Rattle.std.specs.Prelude.{◌≡◌, ◌<◌, ◌≤◌, [], ◌∷◌, bytes_eq, codes, map, sum, MatchBool};
 ghost use Rattle.std.specs.List.{list_any};
 ghost use Rattle.litmus_syntax.specs.Counts.{atom_words};
-ghost use Rattle.predicate_reader.specs.Counts.{IsShort, is_word_of, word_count, text_size, depth_behind, most_open};
+ghost use Rattle.predicate_reader.specs.Counts.{IsShort, is_word_of, word_count, text_size};
 
 use crate::atoms::atom_name;
-use lexeme_reader::Lexeme;
-use litmus_syntax::{MOST_PARENTHESES, MOST_TEXT_BYTES, MOST_WORDS};
+use lexeme_reader::{Lexeme, is_deep};
+use litmus_syntax::{MOST_TEXT_BYTES, MOST_WORDS};
 
 /// Whether an atom begins with this token, or is it.
 fn is_atom_word(lexeme: &Lexeme) -> bool
@@ -60,35 +60,6 @@ fn has_long_texts(asked: &[Lexeme]) -> bool
             return true;
         }
         size += more;
-        rest = behind;
-    }
-    false
-}
-
-/// How many parentheses are open behind a token, of as many before it.
-fn depth_behind(depth: usize, lexeme: &Lexeme) -> usize
-    requires { depth ≤ 64 }
-    ensures { result ≡ depth_behind depth lexeme.now }
-{
-    match lexeme {
-        Lexeme::Sign(b'(') => depth + 1,
-        Lexeme::Sign(b')') => depth.saturating_sub(1),
-        _ => depth,
-    }
-}
-
-/// Whether at some place more than 64 parentheses are open.
-#[tactic(auto, using(crate::proofs::Depths::most_open_front))]
-pub fn is_deep(lexemes: &[Lexeme]) -> bool
-    ensures { MatchBool result (64 < most_open 0 lexemes.now) (most_open 0 lexemes.now ≤ 64) }
-{
-    let mut depth = 0;
-    let mut rest = lexemes;
-    while let Some((lexeme, behind)) = rest.split_first() {
-        depth = depth_behind(depth, lexeme);
-        if depth > MOST_PARENTHESES {
-            return true;
-        }
         rest = behind;
     }
     false

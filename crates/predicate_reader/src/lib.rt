@@ -13,7 +13,7 @@ mod predicates;
 mod ranges;
 mod tokens;
 
-pub use counts::{is_deep, is_short};
+pub use counts::is_short;
 pub use laws::{kept_limits, one_predicate, predicate_or_none};
 pub use predicates::predicate;
 pub use ranges::are_in_range;

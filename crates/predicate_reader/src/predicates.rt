@@ -10,8 +10,8 @@ ghost use Rattle.predicate_reader.specs.AtomFronts.{BeginsAtom};
 ghost use Rattle.predicate_reader.specs.Fronts.{Begins, Expression};
 
 use crate::atoms::atom_at;
-use crate::tokens::{behind_sign, behind_word};
-use lexeme_reader::Lexeme;
+use crate::tokens::behind_sign;
+use lexeme_reader::{Lexeme, behind_word};
 use litmus_syntax::Pred;
 use sqlite_items::Boxed;
 use std::alloc::{AllocError, Global};

@@ -17,18 +17,6 @@ pub fn behind_sign(lexemes: &[Lexeme], sign: u8) -> Option<&[Lexeme]>
     }
 }
 
-/// The tokens behind this word, if they begin with it.
-pub fn behind_word<'a>(lexemes: &'a [Lexeme], word: &[u8]) -> Option<&'a [Lexeme]>
-    ensures { MatchOption result
-        ((rest : List Lexeme) → lexemes.now ≡ says.Word word.now ∷ rest → ⊥)
-        (λ rest. lexemes.now ≡ says.Word word.now ∷ rest.now) }
-{
-    match lexemes.split_first() {
-        Some((Lexeme::Word(first), rest)) if first.as_slice() == word => Some(rest),
-        _ => None,
-    }
-}
-
 /// The word at the front, and the tokens behind it.
 pub fn word_at(lexemes: &[Lexeme]) -> Option<(&Text, &[Lexeme])>
     ensures { MatchOption result

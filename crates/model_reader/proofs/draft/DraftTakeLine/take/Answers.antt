@@ -4,7 +4,7 @@ use Rattle.std.proofs.lemmas.Result.{on_ok_weaker}
 use Rattle.lexeme_reader.specs.declared.reading.Lexeme.{Lexeme}
 use Rattle.line_files.specs.FirstFaults.{IsFirst}
 use Rattle.line_files.specs.StatedLines.{statements}
-use Rattle.predicate_reader.specs.Counts.{most_open}
+use Rattle.lexeme_reader.specs.Parentheses.{most_open}
 use Rattle.model_reader.specs.declared.fault.ModelKind.{ModelKind}
 use Rattle.model_reader.specs.declared.fault.ModelKind.TheVariants.{BadLine, TooDeep, TooMany}
 use Rattle.model_reader.specs.Statements.{Statement, statement_lexemes}

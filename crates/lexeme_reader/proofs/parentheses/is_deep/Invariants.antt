@@ -1,6 +1,6 @@
 use Rattle.std.proofs.Common.{◌<◌, ◌≤◌, length}
-use Rattle.predicate_reader.specs.Counts.{most_open}
-use Rattle.predicate_reader.proofs.counts.is_deep.Given as goal
+use Rattle.lexeme_reader.specs.Parentheses.{most_open}
+use Rattle.lexeme_reader.proofs.parentheses.is_deep.Given as goal
 
 abbrev pub invariant-loop-lexeme : goal.invariant-loop-lexeme
 invariant-loop-lexeme l =
