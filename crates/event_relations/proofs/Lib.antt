@@ -1,0 +1,15 @@
+pub mod Within
+pub mod Growing
+pub mod Inverting
+pub mod Joining
+pub mod Sounding
+pub mod Examples
+pub mod Changing
+pub mod WordTests
+pub mod Showing
+pub mod Filling
+pub mod RowRounds
+pub mod Rising
+pub mod Naming
+pub mod Forwarding
+pub mod Keeping
