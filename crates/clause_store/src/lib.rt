@@ -140,6 +140,16 @@ impl Store {
         Ok(id)
     }
 
+    /// Takes room for so many more clauses with so many more literals together, so that adding them asks for none. Nothing
+    /// else changes, also where memory is refused.
+    pub fn reserve(&mut self, clauses: usize, lits: usize) -> Result<(), AllocError>
+        ensures { self.new ≡ self.old }
+    {
+        self.lits.reserve(lits)?;
+        self.ends.reserve(clauses)?;
+        Ok(())
+    }
+
     /// Keeps the first `len` clauses. The variables stay. It takes no memory.
     pub fn truncate(&mut self, len: usize)
         requires { len ≤ length self.old.clauses }

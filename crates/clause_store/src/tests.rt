@@ -27,6 +27,7 @@ fn keeps_clauses(rt: HostRuntime) -> Result<(), Fail> {
     assert_eq!(rt; store.len(), 2);
     assert!(rt; store.clause(0) == [one].as_slice());
     assert_eq!(rt; store.clause(1).len(), 0);
+    store.reserve(5000, 10000)?;
     for _ in 0..5000 {
         store.add(&[one, not_two])?;
     }

@@ -372,6 +372,16 @@ impl Watches {
         Ok(watches)
     }
 
+    /// Takes room for so many more clauses, so that attaching them asks for none. Nothing else changes, also where memory
+    /// is refused.
+    pub fn reserve(&mut self, clauses: usize) -> Result<(), AllocError>
+        ensures { self.new ≡ self.old }
+    {
+        self.ids.reserve(clauses)?;
+        self.chains.reserve(clauses.saturating_mul(2))?;
+        Ok(())
+    }
+
     /// Attaches the clause `id` of the store, which has to have two different literals and one that isn't false. Two
     /// literals are watched that aren't false where it has them, and else that one and a false one of the highest level.
     /// Where memory is refused, nothing is attached.

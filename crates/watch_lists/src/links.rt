@@ -45,6 +45,14 @@ impl Chains {
         Ok(chains)
     }
 
+    /// Takes room for so many more places.
+    pub fn reserve(&mut self, places: usize) -> Result<(), AllocError>
+        ensures { self.new ≡ self.old }
+    {
+        self.places.reserve(places)?;
+        Ok(())
+    }
+
     /// Puts a new place with the literal `a` before the chain `k`, and the one after it with `b` before `m`.
     pub fn add_pair(&mut self, k: usize, a: Lit, m: usize, b: Lit) -> Result<(), AllocError>
         requires k_in { k < length self.old.lists }

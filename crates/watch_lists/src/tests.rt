@@ -36,6 +36,7 @@ fn watch_all(alloc: Global, store: &Store, trail: &Trail) -> Result<Watches, All
     ensures in_step { IfOk result (λ w. AreInStep w.list trail.now) }
 {
     let mut watches = Watches::new(alloc, store.vars())?;
+    watches.reserve(store.len())?;
     for id in 0..store.len() {
         if has_two(store.clause(id)) {
             watches.attach(store, trail, id)?;

@@ -1,0 +1,11 @@
+pub mod Going
+pub mod Below
+pub mod Learning
+pub mod Step
+pub mod Spreading
+pub mod Deciding
+pub mod Numbering
+pub mod Ending
+pub mod Adding
+pub mod Blaming
+pub mod Opening

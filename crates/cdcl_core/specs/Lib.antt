@@ -1,0 +1,5 @@
+pub mod Answering
+pub mod Numbers
+pub mod Search
+pub mod Steps
+pub mod Blame
