@@ -1,0 +1,4 @@
+pub mod SimpleCommand
+pub mod Verbs
+pub mod Commands
+pub mod Lines
