@@ -1,0 +1,8 @@
+pub mod CrashNumbers
+pub mod CrashReading
+pub mod GeneralSpans
+pub mod Judgements
+pub mod Parting
+pub mod Permutes
+pub mod PlacesOfOrders
+pub mod PrintedLines

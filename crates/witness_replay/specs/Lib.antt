@@ -1,0 +1,5 @@
+pub mod CrashFiles
+pub mod CrashLines
+pub mod Judging
+pub mod Places
+pub mod Spans
