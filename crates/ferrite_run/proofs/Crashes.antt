@@ -16,7 +16,7 @@ use Rattle.fer_events.specs.States.{after_numbers, start_state}
 use Rattle.fer_events.specs.Truth.{truth}
 use Rattle.fer_events.specs.Witness.{IsWitness}
 use Rattle.fer_events.proofs.Ranges.{range_split, range_contains}
-use Rattle.ferrite_run.specs.Checking.{RestAscends}
+use Rattle.ferrite_run.specs.Check.{RestAscends}
 use Rattle.ferrite_run.specs.Cut.{SplitsNone, AnswersAt}
 
 -- the event at a place

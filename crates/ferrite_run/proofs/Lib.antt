@@ -1,8 +1,14 @@
 pub mod Growth
-pub mod Texts
 pub mod Along
 pub mod Crashes
 pub mod PairsOfAll
-pub mod Answering
-pub mod AnswerLaws
+pub mod Ready
+pub mod Rows
+pub mod Single
 pub mod OneAnswer
+pub mod Calm
+pub mod Asked
+pub mod Verdicts
+pub mod SequentialText
+pub mod Sequential
+pub mod Finding

@@ -1,21 +1,27 @@
-ghost use Rattle.std.specs.Prelude.{◌≡◌, [], IfOk};
-ghost use Rattle.fer_events.specs.Orders.{numbers};
-ghost use Rattle.call_events.specs.Resolved.{HasEvents};
-ghost use Rattle.report.specs.Outcomes.{allowed_text};
-ghost use Rattle.ferrite_run.specs.Checking.{IsChecked};
+ghost use Rattle.std.specs.Prelude.{◌≡◌, ℕ, ◌≤◌, List, length, IfOk};
+ghost use Rattle.fer_outside.specs.Causes.{Rose};
+ghost use Rattle.fer_events.specs.Orders.{numbers, all_pairs};
+ghost use Rattle.model_library.specs.declared.texts.ShippedModel.TheVariants.{Sequential};
+ghost use Rattle.command_line.specs.declared.commands.ModelName.TheVariants.{Shipped};
+ghost use Rattle.ferrite_run.specs.Asking.{OnQuestion};
+ghost use Rattle.ferrite_run.specs.Check.{IsChecked};
+ghost use Rattle.ferrite_run.specs.Saying.{Replies};
 
-use crate::answer::{Answer, answered, unresolved};
+use crate::asking::question_of;
 use crate::cuts::least_cut;
-use call_events::resolve;
-use fer_events::{Crash, Events, all_pairs_keep_program_order};
+use crate::laws::sequential_keeps_all;
+use crate::question::Question;
+use crate::saying::{Said, Stop, replied};
+use command_line::{FileName, ModelName};
+use fer_events::{Crash, all_pairs_keep_program_order};
 use fer_list::Seq;
-use litmus_syntax::Litmus;
-use report::{Outcome, text};
+use fer_outside::Library;
+use report::Outcome;
 use std::alloc::{AllocError, Global};
 
 /// The numbers of so many events, in program order.
 fn program_order(alloc: Global, count: u32) -> Result<Seq<u32>, AllocError>
-    ensures { IfOk result (λ order. order ≡ numbers count) }
+    ensures ordered { IfOk result (λ order. order ≡ numbers count) }
 {
     let mut order = Seq::new(alloc);
     for event in 0..count {
@@ -24,47 +30,36 @@ fn program_order(alloc: Global, count: u32) -> Result<Seq<u32>, AllocError>
     Ok(order)
 }
 
-/// The text for the crash with this cut of program order.
-fn allowed_at(alloc: Global, count: u32, cut: u32) -> Result<Vec<u8>, AllocError>
-    ensures { IfOk result (λ text. text.items ≡ allowed_text (record { order = numbers count; cut = cut })) }
-{
-    let order = program_order(alloc, count)?;
-    let crash = Crash { order, cut };
-    let text = text(alloc, &Outcome::Allowed { crash: &crash })?;
-    Ok(text)
-}
-
-/// Whether a crash of these events answers the test's question.
-fn verdict(alloc: Global, litmus: &Litmus, events: &Events) -> Result<Vec<u8>, AllocError>
-    requires { HasEvents litmus.now [] events.now }
-    ensures { IfOk result (λ text. IsChecked litmus.now 0 text.items) }
+/// Whether a crash answers the question, where every pair of events is kept: then the crashes are the cuts of program
+/// order.
+fn verdict(alloc: Global, question: &Question) -> Result<Said, Stop>
+    requires all_kept { question.now.pairs.pairs ≡ all_pairs (length question.now.events.events) }
+    ensures checked { Replies (IsChecked question.now) result }
 {
     all_pairs_keep_program_order();
-    events.keeps_rules();
-    match least_cut(alloc, events, litmus.pred(), litmus.want())? {
-        None => {
-            let text = text(alloc, &Outcome::Forbidden)?;
-            Ok(text)
-        }
-        Some(cut) => {
-            let text = allowed_at(alloc, events.events().len() as u32, cut)?;
-            Ok(text)
-        }
-    }
+    question.events.keeps_rules();
+    let litmus = &question.litmus;
+    let Some(cut) = least_cut(alloc, &question.events, litmus.pred(), litmus.want())? else {
+        return replied(alloc, &Outcome::Forbidden);
+    };
+    let order = program_order(alloc, question.events.events().len() as u32)?;
+    let crash = Crash { order, cut };
+    replied(alloc, &Outcome::Allowed { crash: &crash })
 }
 
-/// Whether a crash answers the test's question: `allowed` with such a crash, or `forbidden`.
-pub fn check(alloc: Global, litmus: &Litmus) -> Result<Answer, AllocError>
-    ensures { IfOk result (λ a. IsChecked litmus.now a.status a.text.items) }
+/// Whether a crash answers the question: `allowed` with such a crash, or `forbidden`.
+pub fn check<L: Library>(
+    alloc: Global,
+    litmus: &FileName,
+    model: &ModelName,
+    library: &mut L,
+) -> Result<Said, Stop>
+    requires sequential { model.now ≡ Shipped Sequential }
+    ensures answered { Replies (OnQuestion (L.held library.old) (λ other. Rose (L.faults library.old other) (L.faults library.new other)) litmus.now model.now IsChecked) result }
+    ensures stays { L.held library.new ≡ L.held library.old }
+    ensures never_falls { (other : List ℕ) → L.faults library.old other ≤ L.faults library.new other }
 {
-    match resolve(alloc, litmus, &[]) {
-        Ok(events) => {
-            let text = verdict(alloc, litmus, &events)?;
-            Ok(answered(text))
-        }
-        Err(fault) => {
-            let answer = unresolved(alloc, fault)?;
-            Ok(answer)
-        }
-    }
+    sequential_keeps_all();
+    let question = question_of(alloc, litmus, model, library)?;
+    verdict(alloc, &question)
 }

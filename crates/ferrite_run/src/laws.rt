@@ -1,23 +1,36 @@
-ghost use Rattle.std.specs.Prelude.{◌≡◌, ◌≢◌, ℕ, List, Some};
+//! Laws of answers. Each function does nothing: its contract is the law.
+
+ghost use Rattle.std.specs.Prelude.{◌≡◌, ℕ, List, length, Some};
 ghost use Rattle.fer_outside.specs.Held.{Held};
-ghost use Rattle.report.specs.Outcomes.{forbidden_text};
-ghost use Rattle.ferrite_run.specs.declared.command.Command.{Command};
-ghost use Rattle.ferrite_run.specs.declared.command.Command.TheVariants.{Check};
-ghost use Rattle.ferrite_run.specs.Command.{IsCommandLine};
+ghost use Rattle.fer_events.specs.declared.event.Event.{Event};
+ghost use Rattle.fer_events.specs.Orders.{all_pairs};
+ghost use Rattle.fer_events.specs.Pairs.{PairList};
+ghost use Rattle.model_library.specs.declared.texts.ShippedModel.TheVariants.{Sequential};
+ghost use Rattle.model_library.specs.ShippedModels.{shipped_text};
+ghost use Rattle.model_reader.specs.declared.model.Model.{Model};
+ghost use Rattle.model_reader.specs.ModelText.{IsModelText};
+ghost use Rattle.report.specs.Answers.{Answer};
+ghost use Rattle.ferrite_run.specs.Agreeing.{Agree};
 ghost use Rattle.ferrite_run.specs.Answers.{IsAnswer};
+ghost use Rattle.ferrite_run.specs.Asking.{AreKept};
 
 use call_events::one_outcome;
-use litmus_reader::one_reading;
+use command_line::one_command;
 
-/// Without faults, what a library holds and the words give one status, and one text: at each status but 0, and for each
-/// command but `check` at 0 too. At 0 the texts of `check` may show different crashes, but all say `forbidden` or none.
+/// Without faults, what a library holds and the words give one answer, but for the crash that shows that a question is
+/// allowed.
 pub fn one_answer()
-    ensures one_status { (held : Held) (words : List (List ℕ)) (s t : ℕ) (x y : List ℕ) → IsAnswer (Some held) (λ name. ⊥) words s x → IsAnswer (Some held) (λ name. ⊥) words t y → s ≡ t }
-    ensures one_text { (held : Held) (words : List (List ℕ)) (s t : ℕ) (x y : List ℕ) → IsAnswer (Some held) (λ name. ⊥) words s x → IsAnswer (Some held) (λ name. ⊥) words t y → s ≢ 0 → x ≡ y }
-    ensures one_reply { (held : Held) (words : List (List ℕ)) (command : Command) (name : List ℕ) (s t : ℕ) (x y : List ℕ) → IsCommandLine words command name → command ≢ Check
-        → IsAnswer (Some held) (λ name. ⊥) words s x → IsAnswer (Some held) (λ name. ⊥) words t y → x ≡ y }
-    ensures one_verdict { (held : Held) (words : List (List ℕ)) (s t : ℕ) (x y : List ℕ) → IsAnswer (Some held) (λ name. ⊥) words s x → IsAnswer (Some held) (λ name. ⊥) words t y → x ≡ forbidden_text → y ≡ forbidden_text }
+    ensures one { (held : Held) (words : List (List ℕ)) (x y : Answer) → IsAnswer (Some held) (λ name. ⊥) words x → IsAnswer (Some held) (λ name. ⊥) words y → Agree x y }
 {
+    one_command();
     one_outcome();
-    one_reading();
+    litmus_reader::one_reading();
+    model_reader::one_reading();
+}
+
+/// The sequential model keeps every pair of events in program order.
+pub fn sequential_keeps_all()
+    ensures all { (model : Model) (events : List Event) (pairs : PairList) → IsModelText (shipped_text Sequential) model → AreKept model events pairs → pairs.pairs ≡ all_pairs (length events) }
+{
+    model_reader::one_reading();
 }

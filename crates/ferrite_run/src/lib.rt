@@ -1,23 +1,25 @@
-//! All that the program does: it reads the words of its command line, fetches and reads the litmus file that they name,
-//! and answers the command. Each step is a function with a contract of its own, and the contract of `run` is what they
-//! come to together. It stands on the reader of litmus files, on the events that their calls become, on the state that
+//! All that the program does: it reads the words of its command line, fetches and reads the files that they name, answers
+//! the command and writes the answer. The work is a row of steps, each a relation that takes what follows as a parameter;
+//! the first step that ends the work says the answer. An answer is a value with one status and one text. Each step is a
+//! function with a contract of its own, and the contract of `run` is what they come to together. It stands on the readers
+//! of litmus files and models, on the events that calls become, on the pairs that a model keeps, on the states that
 //! crashes leave, and on the texts of `report`.
 #![tactic(auto)]
 
-mod answer;
+mod asking;
+mod built;
 mod checking;
-mod command;
 mod cuts;
+mod fetching;
 mod laws;
 mod listing;
+mod question;
 mod reading;
+mod saying;
+mod showing;
 mod top;
-mod words;
 mod writing;
 
-pub use laws::one_answer;
+pub use command_line::Words;
+pub use laws::{one_answer, sequential_keeps_all};
 pub use top::run;
-pub use words::Words;
-
-#[cfg(test)]
-mod tests;

@@ -1,70 +1,40 @@
-ghost use Rattle.std.specs.Prelude.{◌≡◌, ◌≤◌, ◌&&◌, ◌||◌, ◌==◌, ℕ, [], nat_lt, nat_le, length, IfOk};
-ghost use Rattle.fer_events.specs.Orders.{all_pairs};
-ghost use Rattle.fer_events.specs.Pairs.{has_pair};
-ghost use Rattle.call_events.specs.Resolved.{HasEvents};
-ghost use Rattle.report.specs.EventTable.{table_text};
-ghost use Rattle.ferrite_run.specs.Listing.{IsListing};
+ghost use Rattle.std.specs.Prelude.{◌≡◌, ℕ, ◌≤◌, List, length};
+ghost use Rattle.fer_outside.specs.Causes.{Rose};
+ghost use Rattle.ferrite_run.specs.Asking.{OnQuestion};
+ghost use Rattle.ferrite_run.specs.Events.{IsTable};
+ghost use Rattle.ferrite_run.specs.Saying.{Replies};
 
-use crate::answer::{Answer, answered, unresolved};
-use call_events::resolve;
-use fer_events::{Events, Pairs};
-use litmus_syntax::Litmus;
-use report::{Outcome, text};
-use std::alloc::{AllocError, Global};
+use crate::asking::question_of;
+use crate::question::Question;
+use crate::saying::{Said, Stop, replied};
+use command_line::{FileName, ModelName};
+use fer_outside::Library;
+use report::Outcome;
+use std::alloc::Global;
 
-/// Puts each pair of this number and a greater one among the pairs.
-fn set_later(pairs: &mut Pairs, first: u32)
-    requires { (1 ≤ first) × (first ≤ pairs.old.n) }
-    ensures n { pairs.new.n ≡ pairs.old.n }
-    ensures pairs { (x y : ℕ) → has_pair pairs.new.pairs x y ≡ ((first == x) && (nat_lt first y && nat_le y pairs.old.n)) || has_pair pairs.old.pairs x y }
+/// The table of the events and of the kept pairs.
+fn table(alloc: Global, question: &Question) -> Result<Said, Stop>
+    requires counted { question.now.pairs.n ≡ length question.now.events.events }
+    ensures listed { Replies (IsTable question.now) result }
 {
-    let mut second = first;
-    while second < pairs.n() {
-        second += 1;
-        pairs.set(first, second);
-    }
-}
-
-/// Every pair of so many events in program order.
-fn every_pair(count: u32) -> Pairs
-    requires { count ≤ 128 }
-    ensures { result ≡ record { n = count; pairs = all_pairs count } }
-{
-    let mut pairs = Pairs::new(count);
-    let mut first = 0;
-    while first < pairs.n() {
-        first += 1;
-        set_later(&mut pairs, first);
-    }
-    pairs
-}
-
-/// The table of the events, with every pair of them in program order.
-fn table(alloc: Global, events: &Events) -> Result<Vec<u8>, AllocError>
-    ensures { IfOk result (λ text. text.items ≡ table_text events.now (all_pairs (length events.now.events))) }
-{
-    events.keeps_rules();
-    let pairs = every_pair(events.events().len() as u32);
     let outcome = Outcome::EventTable {
-        events,
-        pairs: &pairs,
+        events: &question.events,
+        pairs: &question.pairs,
     };
-    let text = text(alloc, &outcome)?;
-    Ok(text)
+    replied(alloc, &outcome)
 }
 
 /// The events of the test, and the pairs of them that have to reach the disk in order.
-pub fn list(alloc: Global, litmus: &Litmus) -> Result<Answer, AllocError>
-    ensures { IfOk result (λ a. IsListing litmus.now a.status a.text.items) }
+pub fn list<L: Library>(
+    alloc: Global,
+    litmus: &FileName,
+    model: &ModelName,
+    library: &mut L,
+) -> Result<Said, Stop>
+    ensures answered { Replies (OnQuestion (L.held library.old) (λ other. Rose (L.faults library.old other) (L.faults library.new other)) litmus.now model.now IsTable) result }
+    ensures stays { L.held library.new ≡ L.held library.old }
+    ensures never_falls { (other : List ℕ) → L.faults library.old other ≤ L.faults library.new other }
 {
-    match resolve(alloc, litmus, &[]) {
-        Ok(events) => {
-            let text = table(alloc, &events)?;
-            Ok(answered(text))
-        }
-        Err(fault) => {
-            let answer = unresolved(alloc, fault)?;
-            Ok(answer)
-        }
-    }
+    let question = question_of(alloc, litmus, model, library)?;
+    table(alloc, &question)
 }

@@ -1,48 +1,95 @@
-ghost use Rattle.std.specs.Prelude.{◌≡◌, IfOk};
-ghost use Rattle.litmus_syntax.specs.LitmusText.{litmus_text};
-ghost use Rattle.ferrite_run.specs.Answers.{IsTestAnswer, IsBytesAnswer};
+ghost use Rattle.std.specs.Prelude.{◌≡◌, ℕ, ◌≤◌, List, IfOk, IfErr};
+ghost use Rattle.fer_outside.specs.Causes.{Rose};
+ghost use Rattle.litmus_reader.specs.LitmusText.{IsLitmusText};
+ghost use Rattle.model_reader.specs.ModelText.{IsModelText};
+ghost use Rattle.command_line.specs.declared.commands.ModelName.TheVariants.{File};
+ghost use Rattle.ferrite_run.specs.Reading.{IsNoLitmus, IsNoModel, OnLitmus, OnModel};
+ghost use Rattle.ferrite_run.specs.Yields.{IsLitmusOf, IsModelOf};
+ghost use Rattle.ferrite_run.specs.Saying.{StopsWith};
 
-use crate::answer::{Answer, answered, unread};
-use crate::checking::check;
-use crate::command::Command;
-use crate::listing::list;
-use litmus_reader::read;
+use crate::fetching::fetch;
+use crate::saying::{Stop, stopped};
+use command_line::{FileName, ModelName};
+use fer_outside::Library;
+use litmus_reader::LitmusFault;
 use litmus_syntax::Litmus;
-use report::{Outcome, text};
-use std::alloc::{AllocError, Global};
+use model_reader::{Model, ModelFault};
+use report::{Outcome, Role};
+use std::alloc::Global;
 
-/// The test in its canonical text, in the second version of the grammar, which says the sizes of all pieces.
-fn show(alloc: Global, litmus: &mut Litmus) -> Result<Answer, AllocError>
-    ensures { IfOk result (λ a. (a.status ≡ 0) × (a.text.items ≡ litmus_text (record litmus.old { version = 2 }))) }
+/// The test that the bytes of a litmus file are.
+fn read_litmus(alloc: Global, bytes: &[u8]) -> Result<Litmus, Stop>
+    ensures read { IfOk result (λ litmus. IsLitmusText bytes.now litmus) }
+    ensures unread { IfErr result (StopsWith (IsNoLitmus bytes.now)) }
 {
-    litmus.upgrade();
-    let text = text(alloc, &Outcome::Shown { litmus })?;
-    Ok(answered(text))
-}
-
-/// What a command answers to a litmus test.
-fn answer_test(alloc: Global, command: Command, litmus: &mut Litmus) -> Result<Answer, AllocError>
-    ensures { IfOk result (λ a. IsTestAnswer command litmus.old a.status a.text.items) }
-{
-    match command {
-        Command::Check => check(alloc, litmus),
-        Command::Events => list(alloc, litmus),
-        Command::Show => show(alloc, litmus),
+    match litmus_reader::read(alloc, bytes) {
+        Ok(litmus) => Ok(litmus),
+        Err(LitmusFault::Refused { line, kind }) => {
+            let kind = kind.number();
+            Err(stopped(alloc, &Outcome::LitmusRefused { line, kind }))
+        }
+        Err(LitmusFault::OutOfMemory) => Err(Stop::OutOfMemory),
     }
 }
 
-/// What a command answers to a litmus file of these bytes.
-pub fn answer_bytes(alloc: Global, command: Command, bytes: &[u8]) -> Result<Answer, AllocError>
-    ensures { IfOk result (λ a. IsBytesAnswer command bytes.now a.status a.text.items) }
+/// The model that the bytes of a model file are.
+fn read_model(alloc: Global, bytes: &[u8]) -> Result<Model, Stop>
+    ensures read { IfOk result (λ model. IsModelText bytes.now model) }
+    ensures unread { IfErr result (StopsWith (IsNoModel bytes.now)) }
 {
-    match read(alloc, bytes) {
-        Ok(mut litmus) => {
-            let answer = answer_test(alloc, command, &mut litmus)?;
-            Ok(answer)
+    match model_reader::read(alloc, bytes) {
+        Ok(model) => Ok(model),
+        Err(ModelFault::Refused { line, kind }) => {
+            let kind = kind.number();
+            Err(stopped(alloc, &Outcome::ModelRefused { line, kind }))
         }
-        Err(fault) => {
-            let answer = unread(alloc, fault)?;
-            Ok(answer)
+        Err(ModelFault::OutOfMemory) => Err(Stop::OutOfMemory),
+    }
+}
+
+/// The test in the litmus file of this name.
+pub fn litmus_of<L: Library>(
+    alloc: Global,
+    name: &FileName,
+    library: &mut L,
+) -> Result<Litmus, Stop>
+    ensures read { IfOk result (λ litmus. IsLitmusOf (L.held library.old) name.now litmus) }
+    ensures unread { IfErr result (StopsWith (OnLitmus (L.held library.old) (λ other. Rose (L.faults library.old other) (L.faults library.new other)) name.now (λ _ _. ⊥))) }
+    ensures stays { L.held library.new ≡ L.held library.old }
+    ensures never_falls { (other : List ℕ) → L.faults library.old other ≤ L.faults library.new other }
+{
+    let bytes = fetch(alloc, Role::LitmusFile, name, library)?;
+    let litmus = read_litmus(alloc, bytes.as_slice())?;
+    Ok(litmus)
+}
+
+/// The model in the file of this name.
+fn model_in<L: Library>(alloc: Global, name: &FileName, library: &mut L) -> Result<Model, Stop>
+    ensures read { IfOk result (λ model. IsModelOf (L.held library.old) (File name.now) model) }
+    ensures unread { IfErr result (StopsWith (OnModel (L.held library.old) (λ other. Rose (L.faults library.old other) (L.faults library.new other)) (File name.now) (λ _ _. ⊥))) }
+    ensures stays { L.held library.new ≡ L.held library.old }
+    ensures never_falls { (other : List ℕ) → L.faults library.old other ≤ L.faults library.new other }
+{
+    let bytes = fetch(alloc, Role::ModelFile, name, library)?;
+    let model = read_model(alloc, bytes.as_slice())?;
+    Ok(model)
+}
+
+/// The model that a command names.
+pub fn model_of<L: Library>(alloc: Global, name: &ModelName, library: &mut L) -> Result<Model, Stop>
+    ensures read { IfOk result (λ model. IsModelOf (L.held library.old) name.now model) }
+    ensures unread { IfErr result (StopsWith (OnModel (L.held library.old) (λ other. Rose (L.faults library.old other) (L.faults library.new other)) name.now (λ _ _. ⊥))) }
+    ensures stays { L.held library.new ≡ L.held library.old }
+    ensures never_falls { (other : List ℕ) → L.faults library.old other ≤ L.faults library.new other }
+{
+    match name {
+        ModelName::Shipped(shipped) => {
+            let model = read_model(alloc, shipped.text().as_bytes())?;
+            Ok(model)
+        }
+        ModelName::File(name) => {
+            let model = model_in(alloc, name, library)?;
+            Ok(model)
         }
     }
 }

@@ -1,21 +1,23 @@
-ghost use Rattle.std.specs.Prelude.{◌≡◌, ◌⊎◌, ℕ, ◌≤◌, ◌<◌, List, IfOk};
+ghost use Rattle.std.specs.Prelude.{◌≡◌, ◌⊎◌, ℕ, ◌≤◌, ◌<◌, List, Some, IfOk};
 ghost use Rattle.fer_outside.specs.Causes.{Rose, Grew};
-ghost use Rattle.ferrite_run.specs.declared.command.Command.{Command};
-ghost use Rattle.ferrite_run.specs.Command.{IsCommandLine};
-ghost use Rattle.ferrite_run.specs.Answers.{IsFileAnswer, IsAnswer, IsProperFront};
+ghost use Rattle.command_line.specs.declared.commands.Command.{Command};
+ghost use Rattle.report.specs.Answers.{Answer, answer_text};
+ghost use Rattle.ferrite_run.specs.Built.{IsBuilt};
+ghost use Rattle.ferrite_run.specs.Found.{IsFoundReply};
+ghost use Rattle.ferrite_run.specs.Answers.{Asks, IsReply, IsAnswer, IsFileOf, IsProperFront};
+ghost use Rattle.ferrite_run.specs.Saying.{SaysOne, Replies};
+ghost use Rattle.ferrite_run.specs.Statuses.{status_of};
 
-use crate::answer::{Answer, unfetched};
-use crate::command::{Command, command_of};
-use crate::reading::answer_bytes;
-use crate::words::Words;
+use crate::built::is_built;
+use crate::checking::check;
+use crate::listing::list;
+use crate::saying::{Said, Stop, replied, say};
+use crate::showing::show;
 use crate::writing::write_whole;
+use command_line::{Command, Words, command_of, one_command};
 use fer_outside::{Library, Sink};
-use line_files::MOST_BYTES;
-use report::{Outcome, text};
+use report::Outcome;
 use std::alloc::{AllocError, Global};
-
-/// The status where the words are no command line.
-const USAGE: u8 = 3;
 
 /// The status where the text couldn't be written whole.
 const WRITE_FAULT: u8 = 8;
@@ -23,25 +25,60 @@ const WRITE_FAULT: u8 = 8;
 /// The status where memory was wanting.
 const OUT_OF_MEMORY: u8 = 9;
 
-/// What a command answers about the litmus file of this name.
-fn answer_file<L: Library>(
-    alloc: Global,
-    command: Command,
-    name: &str,
-    library: &mut L,
-) -> Result<Answer, AllocError>
-    ensures answered { IfOk result (λ a. IsFileAnswer (L.held library.old) (Rose (L.faults library.old name.now) (L.faults library.new name.now)) command name.now a.status a.text.items) }
+/// What a command that is built answers.
+fn reply<L: Library>(alloc: Global, command: &Command, library: &mut L) -> Result<Said, Stop>
+    requires built { IsBuilt command.now }
+    ensures replied { Replies (IsReply (L.held library.old) (λ other. Rose (L.faults library.old other) (L.faults library.new other)) command.now) result }
     ensures stays { L.held library.new ≡ L.held library.old }
     ensures never_falls { (other : List ℕ) → L.faults library.old other ≤ L.faults library.new other }
 {
-    match library.fetch(alloc, name, MOST_BYTES) {
-        Ok(bytes) => {
-            let answer = answer_bytes(alloc, command, bytes.as_slice())?;
-            Ok(answer)
-        }
-        Err(error) => {
-            let answer = unfetched(alloc, error)?;
-            Ok(answer)
+    match command {
+        Command::Check { litmus, model, .. } => check(alloc, litmus, model, library),
+        Command::Events { litmus, model } => list(alloc, litmus, model, library),
+        Command::Show { litmus } => show(alloc, litmus, library),
+        Command::Models => replied(alloc, &Outcome::Models),
+        // The others aren't built.
+        _ => replied(alloc, &Outcome::Usage),
+    }
+}
+
+/// What is answered to a command that is built.
+fn answer_command<L: Library>(
+    alloc: Global,
+    command: &Command,
+    library: &mut L,
+) -> Result<Said, AllocError>
+    requires built { IsBuilt command.now }
+    ensures replied { IfOk result (SaysOne (IsReply (L.held library.old) (λ other. Rose (L.faults library.old other) (L.faults library.new other)) command.now)) }
+    ensures stays { L.held library.new ≡ L.held library.old }
+    ensures never_falls { (other : List ℕ) → L.faults library.old other ≤ L.faults library.new other }
+{
+    match reply(alloc, command, library) {
+        Ok(said) => Ok(said),
+        Err(Stop::Answered(said)) => Ok(said),
+        Err(Stop::OutOfMemory) => Err(AllocError),
+    }
+}
+
+/// What is answered where this command was found in the words, or none.
+fn answer_found<L: Library>(
+    alloc: Global,
+    found: &Option<Command>,
+    library: &mut L,
+) -> Result<Said, AllocError>
+    ensures answered { IfOk result (SaysOne (IsFoundReply (L.held library.old) (λ name. Rose (L.faults library.old name) (L.faults library.new name)) found.now)) }
+    ensures untouched { ((command : Command) → found.now ≡ Some command → IsBuilt command → ⊥) → library.new ≡ library.old }
+    ensures stays { L.held library.new ≡ L.held library.old }
+    ensures never_falls { (other : List ℕ) → L.faults library.old other ≤ L.faults library.new other }
+{
+    match found {
+        None => say(alloc, &Outcome::Usage),
+        Some(command) => {
+            if is_built(command) {
+                answer_command(alloc, command, library)
+            } else {
+                say(alloc, &Outcome::Usage)
+            }
         }
     }
 }
@@ -51,43 +88,36 @@ fn answer_words<L: Library>(
     alloc: Global,
     words: &Words,
     library: &mut L,
-) -> Result<Answer, AllocError>
-    ensures answered { IfOk result (λ a. IsAnswer (L.held library.old) (λ name. Rose (L.faults library.old name) (L.faults library.new name)) words.now a.status a.text.items) }
-    ensures untouched { ((command : Command) (name : List ℕ) → IsCommandLine words.now command name → ⊥) → library.new ≡ library.old }
+) -> Result<Said, AllocError>
+    ensures answered { IfOk result (SaysOne (IsAnswer (L.held library.old) (λ name. Rose (L.faults library.old name) (L.faults library.new name)) words.now)) }
+    ensures untouched { ((command : Command) → Asks words.now command → ⊥) → library.new ≡ library.old }
     ensures stays { L.held library.new ≡ L.held library.old }
     ensures never_falls { (other : List ℕ) → L.faults library.old other ≤ L.faults library.new other }
 {
-    match command_of(words) {
-        None => {
-            let text = text(alloc, &Outcome::Usage)?;
-            Ok(Answer {
-                status: USAGE,
-                text,
-            })
-        }
-        Some((command, name)) => {
-            let answer = answer_file(alloc, command, name, library)?;
-            Ok(answer)
-        }
-    }
+    one_command();
+    let found = command_of(alloc, words, &[])?;
+    answer_found(alloc, &found, library)
 }
 
-/// Does all that the program does, and answers its status: 0 where the answer was written, 3 where the words are no
-/// command line, 4 where the litmus file is refused, 6 where it isn't there, 7 where it can't be read, 8 where the text
-/// couldn't be written whole, and 9 where memory was wanting.
+/// Does all that the program does, and answers its status: 0 where the command's answer was written, 1 where a log or a
+/// crash is refused, 3 where the words are no command line, 4 where the litmus file is refused and 5 where the model is, 6
+/// where a file isn't there, 7 where it can't be read, 8 where the text couldn't be written whole, and 9 where memory was
+/// wanting.
 pub fn run<L: Library, K: Sink>(alloc: Global, words: &Words, library: &mut L, out: &mut K) -> u8
-    // At a status below 8 the text that goes with it was written whole.
-    ensures answered { result < 8 → (text : List ℕ) × IsAnswer (L.held library.old) (λ name. Rose (L.faults library.old name) (L.faults library.new name)) words.now result text × Grew (K.written out.old) (K.written out.new) text }
+    // At a status below 8 it is that of an answer whose text was written whole.
+    ensures answered { result < 8 → (answer : Answer) × IsAnswer (L.held library.old) (λ name. Rose (L.faults library.old name) (L.faults library.new name)) words.now answer
+        × (result ≡ status_of answer) × Grew (K.written out.old) (K.written out.new) (answer_text answer) }
     // At 8 a write failed, and a part of such a text was written that isn't the whole of it.
-    ensures cut_short { result ≡ 8 → (status : ℕ) × (text : List ℕ) × (front : List ℕ) × IsAnswer (L.held library.old) (λ name. Rose (L.faults library.old name) (L.faults library.new name)) words.now status text × IsProperFront front text × Grew (K.written out.old) (K.written out.new) front }
+    ensures cut_short { result ≡ 8 → (answer : Answer) × (front : List ℕ) × IsAnswer (L.held library.old) (λ name. Rose (L.faults library.old name) (L.faults library.new name)) words.now answer
+        × IsProperFront front (answer_text answer) × Grew (K.written out.old) (K.written out.new) front }
     ensures write_fault { result ≡ 8 → Rose (K.faults out.old) (K.faults out.new) }
     // At 9 no write was tried.
     ensures out_of_memory { result ≡ 9 → out.new ≡ out.old }
-    // Where the words are no command line nothing is fetched.
-    ensures untouched { ((command : Command) (name : List ℕ) → IsCommandLine words.now command name → ⊥) → library.new ≡ library.old }
+    // Where the words are no command that is built nothing is fetched.
+    ensures untouched { ((command : Command) → Asks words.now command → ⊥) → library.new ≡ library.old }
     // Where no count of faults rose and memory sufficed, the answer is that of a run without faults.
-    ensures complete { ((command : Command) (name : List ℕ) → IsCommandLine words.now command name → Rose (L.faults library.old name) (L.faults library.new name) → ⊥) → (Rose (K.faults out.old) (K.faults out.new) → ⊥)
-        → (result ≡ 9) ⊎ ((text : List ℕ) × IsAnswer (L.held library.old) (λ name. ⊥) words.now result text × Grew (K.written out.old) (K.written out.new) text) }
+    ensures complete { ((command : Command) (name : List ℕ) → Asks words.now command → IsFileOf command name → Rose (L.faults library.old name) (L.faults library.new name) → ⊥) → (Rose (K.faults out.old) (K.faults out.new) → ⊥)
+        → (result ≡ 9) ⊎ ((answer : Answer) × IsAnswer (L.held library.old) (λ name. ⊥) words.now answer × (result ≡ status_of answer) × Grew (K.written out.old) (K.written out.new) (answer_text answer)) }
     ensures known { result ≤ 9 }
     ensures held_stays { L.held library.new ≡ L.held library.old }
     ensures faults_stay { (name : List ℕ) → L.faults library.old name ≤ L.faults library.new name }
@@ -95,9 +125,9 @@ pub fn run<L: Library, K: Sink>(alloc: Global, words: &Words, library: &mut L, o
 {
     match answer_words(alloc, words, library) {
         Err(_) => OUT_OF_MEMORY,
-        Ok(answer) => {
-            if write_whole(out, answer.text.as_slice()) {
-                answer.status
+        Ok(said) => {
+            if write_whole(out, said.text.as_slice()) {
+                said.status
             } else {
                 WRITE_FAULT
             }

@@ -1,3 +1,4 @@
 pub mod EventTable
+pub mod Answers
 pub mod Outcomes
 pub mod Rows

@@ -8,6 +8,7 @@ use fer_list::Seq;
 use litmus_syntax::{Call, Litmus, Path, Pred, Site, Step, insert};
 use std::alloc::{AllocError, Global};
 use std::test::Fail;
+use witness_replay::CrashJudgement;
 
 #[test]
 fn texts_of_answers(rt: HostRuntime) -> Result<(), Fail> {
@@ -16,7 +17,6 @@ fn texts_of_answers(rt: HostRuntime) -> Result<(), Fail> {
         order: Seq::from_vec(vec![in alloc; 1, 3, 4, 2]?),
         cut: 3,
     };
-    let role = Role::LitmusFile;
     let rows = [
         (
             Outcome::Allowed { crash: &crash },
@@ -27,8 +27,65 @@ fn texts_of_answers(rt: HostRuntime) -> Result<(), Fail> {
             Outcome::LitmusRefused { line: 67, kind: 14 },
             "litmus refused: line 67 kind 14\n",
         ),
-        (Outcome::ReadFault { role }, "read fault: litmus\n"),
-        (Outcome::Missing { role }, "not found: litmus\n"),
+        (
+            Outcome::ModelRefused { line: 2, kind: 4 },
+            "model refused: line 2 kind 4\n",
+        ),
+        (
+            Outcome::LogRefused { line: 5, kind: 3 },
+            "log refused: line 5 kind 3\n",
+        ),
+        (Outcome::LogAccepted { sites: 0 }, "log accepted: 0 sites\n"),
+        (Outcome::CrashAccepted, "crash accepted\n"),
+        (
+            Outcome::CrashRefused {
+                judgement: CrashJudgement::NotAnOrder,
+            },
+            "crash refused: kind 1\n",
+        ),
+        (
+            Outcome::CrashRefused {
+                judgement: CrashJudgement::PairBroken { a: 1, b: 3 },
+            },
+            "crash refused: kind 2 pair 1 3\n",
+        ),
+        (
+            Outcome::CrashRefused {
+                judgement: CrashJudgement::TransactionSplit { txn: 3 },
+            },
+            "crash refused: kind 3 transaction 3\n",
+        ),
+        (
+            Outcome::CrashRefused {
+                judgement: CrashJudgement::PredicateFalse,
+            },
+            "crash refused: kind 4\n",
+        ),
+        (Outcome::CrashUnread, "crash refused: kind 5\n"),
+        (
+            Outcome::ReadFault {
+                role: Role::LitmusFile,
+            },
+            "read fault: litmus\n",
+        ),
+        (
+            Outcome::Missing {
+                role: Role::ModelFile,
+            },
+            "not found: model\n",
+        ),
+        (
+            Outcome::Missing {
+                role: Role::LogFile,
+            },
+            "not found: log\n",
+        ),
+        (
+            Outcome::Missing {
+                role: Role::CrashFile,
+            },
+            "not found: crash\n",
+        ),
     ];
     for (outcome, want) in rows {
         let got = text(alloc, &outcome)?;

@@ -1,34 +1,39 @@
-use Rattle.std.proofs.Common.{ℕ, ◌≤◌, Bool, List, length, refl, ◌∙◌, ap, subst}
+use Rattle.std.proofs.Common.{ℕ, ◌≤◌, Bool, List, length, ◌∙◌, ap, subst}
 use Rattle.std.proofs.lemmas.Option.{MatchOption-at_none, MatchOption-at_some}
 use Rattle.litmus_syntax.specs.declared.pred.Pred.{Pred}
 use Rattle.fer_events.specs.declared.event.Event.{Event}
 use Rattle.fer_events.specs.Orders.{numbers}
-use Rattle.report.specs.Outcomes.{allowed_text}
-use Rattle.ferrite_run.specs.Checking.{IsChecked}
+use Rattle.report.specs.Answers.{Allowed}
+use Rattle.ferrite_run.specs.Check.{IsChecked}
 use Rattle.ferrite_run.specs.Cut.{AnswersAt}
 use Rattle.ferrite_run.proofs.Crashes.{OneOrder}
-use Rattle.ferrite_run.proofs.Answering.{moved, told_forbidden, told_allowed}
+use Rattle.ferrite_run.proofs.Ready.{replies_more}
+use Rattle.ferrite_run.proofs.Verdicts.{told_forbidden, told_allowed}
 use Rattle.ferrite_run.proofs.checking.verdict.Goals as goal
 
-pub returns-in_ok-text-in-None : goal.returns-in_ok-text-in-None
-returns-in_ok-text-in-None c =
-    let t = c.args.events.now in
-    let litmus = c.args.litmus.now in
+pub returns-in_default : goal.returns-in_default
+returns-in_default c =
+    let q = c.args.question.now in
     let one : OneOrder = record { valid = c.all_pairs_keep_program_order.ensures.valid; only = c.all_pairs_keep_program_order.ensures.only } in
-    let found = MatchOption-at_none _ _ c.in-None.is c.in_ok-least_cut.ensures in
-    let P : Pred → Type 0 = λ pred. (k : ℕ) → k ≤ length t.events → AnswersAt t pred c.want.result k → ⊥ in
-    let Q : Bool → Type 0 = λ want. (k : ℕ) → k ≤ length t.events → AnswersAt t litmus.pred want k → ⊥ in
-    moved (IsChecked litmus) 0 0 _ _ refl c.in_ok-text-in-None.ensures (told_forbidden one litmus t c.requires (subst Q c.want.ensures (subst P c.pred.ensures found)))
+    let found = MatchOption-at_none _ _ c.in_default.is c.in_ok-cut.ensures in
+    let P : Pred → Type 0 = λ pred. (k : ℕ) → k ≤ length q.events.events → AnswersAt q.events pred c.want.result k → ⊥ in
+    let Q : Bool → Type 0 = λ want. (k : ℕ) → k ≤ length q.events.events → AnswersAt q.events q.litmus.pred want k → ⊥ in
+    record {
+      checked = replies_more _ (IsChecked q) c.replied.result (told_forbidden one q c.requires.all_kept (subst Q c.want.ensures (subst P c.pred.ensures found))) c.replied.ensures.replied;
+    }
 
-pub returns-in_ok-text-in-Some : goal.returns-in_ok-text-in-Some
-returns-in_ok-text-in-Some c =
-    let t = c.args.events.now in
-    let litmus = c.args.litmus.now in
-    let one : OneOrder = record { valid = c.all_pairs_keep_program_order.ensures.valid; only = c.all_pairs_keep_program_order.ensures.only } in
+pub returns : goal.returns
+returns c =
+    let q = c.args.question.now in
     let cut = c.in-Some.cut in
-    let found = MatchOption-at_some _ _ _ c.in-Some.is c.in_ok-least_cut.ensures in
-    let P : Pred → Type 0 = λ pred. AnswersAt t pred c.want.result cut in
-    let Q : Bool → Type 0 = λ want. AnswersAt t litmus.pred want cut in
-    moved (IsChecked litmus) 0 0 _ _ refl
-    (c.in_ok-text-in-Some.ensures ∙ ap (λ (es : List Event). allowed_text (record { order = numbers (length es); cut = cut })) c.events.ensures)
-    (told_allowed one litmus t cut c.requires found.0 (subst Q c.want.ensures (subst P c.pred.ensures found.1)))
+    let one : OneOrder = record { valid = c.all_pairs_keep_program_order.ensures.valid; only = c.all_pairs_keep_program_order.ensures.only } in
+    let found = MatchOption-at_some _ _ _ c.in-Some.is c.in_ok-cut.ensures in
+    let P : Pred → Type 0 = λ pred. AnswersAt q.events pred c.want.result cut in
+    let Q : Bool → Type 0 = λ want. AnswersAt q.events q.litmus.pred want cut in
+    let order = c.in_ok-order.ensures.ordered ∙ ap (λ (es : List Event). numbers (length es)) c.events.ensures in
+    record {
+      checked = replies_more _ (IsChecked q) c.replied-2.result
+          (λ a e. told_allowed one q cut c.requires.all_kept found.0 (subst Q c.want.ensures (subst P c.pred.ensures found.1)) a
+          (e ∙ ap (λ (o : List ℕ). Allowed (record { order = o; cut = cut })) order))
+          c.replied-2.ensures.replied;
+    }

@@ -1,16 +1,24 @@
-use Rattle.std.proofs.Common.{◌∙◌, ap}
-use Rattle.ferrite_run.specs.declared.answer.Answer.{Answer}
-use Rattle.ferrite_run.specs.Listing.{IsListing}
-use Rattle.ferrite_run.specs.Listing.IsListing.{listed}
-use Rattle.ferrite_run.proofs.Answering.{moved, unresolved_listing}
+use Rattle.std.proofs.Common.{ℕ, List}
+use Rattle.fer_outside.specs.Causes.{Rose}
+use Rattle.ferrite_run.specs.Asking.{OnQuestion}
+use Rattle.ferrite_run.specs.Events.{IsTable}
+use Rattle.ferrite_run.proofs.Asked.{unasked, on_question}
+use Rattle.ferrite_run.proofs.Ready.{stops_more, replies_more, reply_passed_on}
 use Rattle.ferrite_run.proofs.listing.list.Goals as goal
 
-pub returns-in_ok-text-in-Ok : goal.returns-in_ok-text-in-Ok
-returns-in_ok-text-in-Ok c =
-    let litmus = c.args.litmus.now in
-    moved (IsListing litmus) 0 _ _ _ (ap (λ (a : Answer). a.status) c.answered.ensures)
-    (ap (λ (a : Answer). a.text.items) c.answered.ensures ∙ c.in_ok-text-in-Ok.ensures) (listed c.in-Ok.events c.in-Ok.ensures.events)
+pub returns-in_err-question-clause-answered : goal.returns-in_err-question-clause-answered
+returns-in_err-question-clause-answered g c =
+    let told = g.L.Library.held c.args.library.now in
+    let rose : List ℕ → Type 0 = λ other. Rose (g.L.Library.faults c.args.library.now other) (g.L.Library.faults c.question_of.new.library other) in
+    let l = c.args.litmus.now in
+    let m = c.args.model.now in
+    reply_passed_on c.from_residual.result c.in_err-question.field-0.0 (OnQuestion told rose l m IsTable) c.from_residual.ensures.1
+    (stops_more (OnQuestion told rose l m (λ _ _. ⊥)) _ c.in_err-question.field-0.0 (λ a h. unasked told rose l m IsTable a h) c.in_err-question.ensures.unasked)
 
-pub returns-in_ok-answer-in-Err : goal.returns-in_ok-answer-in-Err
-returns-in_ok-answer-in-Err c =
-    unresolved_listing c.args.litmus.now c.in-Err.fault _ _ c.in_ok-answer-in-Err.ensures c.in-Err.ensures.refused
+pub returns-clause-answered : goal.returns-clause-answered
+returns-clause-answered g c =
+    let told = g.L.Library.held c.args.library.now in
+    let rose : List ℕ → Type 0 = λ other. Rose (g.L.Library.faults c.args.library.now other) (g.L.Library.faults c.question_of.new.library other) in
+    let q = c.in_ok-question.question in
+    replies_more (IsTable q) (OnQuestion told rose c.args.litmus.now c.args.model.now IsTable) c.table.result
+    (λ a h. on_question told rose c.args.litmus.now c.args.model.now IsTable q a c.in_ok-question.ensures.asked h) c.table.ensures.listed

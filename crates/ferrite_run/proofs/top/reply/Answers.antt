@@ -1,0 +1,24 @@
+use Rattle.std.proofs.Common.{◌≡◌, ℕ, List, sym, subst}
+use Rattle.fer_outside.specs.Causes.{Rose}
+use Rattle.command_line.specs.declared.commands.Command.{Command}
+use Rattle.ferrite_run.specs.Answers.{IsReply}
+use Rattle.ferrite_run.specs.Saying.{Replies}
+use Rattle.ferrite_run.proofs.top.reply.Goals as goal
+
+pub returns-in-Check-clause-replied : goal.returns-in-Check-clause-replied
+returns-in-Check-clause-replied g c =
+    let rose : List ℕ → Type 0 = λ other. Rose (g.L.Library.faults c.args.library.now other) (g.L.Library.faults c.check.new.library other) in
+    let P : Command → Type 0 = λ command. Replies (IsReply (g.L.Library.held c.args.library.now) rose command) c.check.result in
+    subst P (sym c.in-Check.is) c.check.ensures.answered
+
+pub returns-in-Events-clause-replied : goal.returns-in-Events-clause-replied
+returns-in-Events-clause-replied g c =
+    let rose : List ℕ → Type 0 = λ other. Rose (g.L.Library.faults c.args.library.now other) (g.L.Library.faults c.list.new.library other) in
+    let P : Command → Type 0 = λ command. Replies (IsReply (g.L.Library.held c.args.library.now) rose command) c.list.result in
+    subst P (sym c.in-Events.is) c.list.ensures.answered
+
+pub returns-in-Show-clause-replied : goal.returns-in-Show-clause-replied
+returns-in-Show-clause-replied g c =
+    let rose : List ℕ → Type 0 = λ other. Rose (g.L.Library.faults c.args.library.now other) (g.L.Library.faults c.show.new.library other) in
+    let P : Command → Type 0 = λ command. Replies (IsReply (g.L.Library.held c.args.library.now) rose command) c.show.result in
+    subst P (sym c.in-Show.is) c.show.ensures.answered

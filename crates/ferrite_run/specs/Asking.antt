@@ -1,0 +1,45 @@
+-- The steps that all commands on a litmus file and a model begin with.
+use Rattle.std.specs.Prelude.{◌≡◌, ◌↔◌, ℕ, List, [], length, Option, Contains}
+use Rattle.fer_outside.specs.Held.{Held}
+use Rattle.litmus_syntax.specs.Test.{Test}
+use Rattle.litmus_syntax.specs.declared.site.Site.{Site}
+use Rattle.fer_events.specs.declared.event.Event.{Event}
+use Rattle.fer_events.specs.Pairs.{PairList, IsListed}
+use Rattle.fer_events.specs.Tables.{Trace}
+use Rattle.call_events.specs.declared.call_kind.CallKind.{CallKind}
+use Rattle.call_events.specs.Refusals.{kind_number}
+use Rattle.call_events.specs.Resolved.{HasEvents, IsCallRefused}
+use Rattle.model_reader.specs.declared.model.Model.{Model}
+use Rattle.event_relations.specs.Kept.{IsKept}
+use Rattle.command_line.specs.declared.commands.ModelName.{ModelName}
+use Rattle.report.specs.Answers.{Answer, LitmusRefused}
+use Rattle.ferrite_run.specs.declared.question.Question.{Question}
+use Rattle.ferrite_run.specs.Steps.{Step}
+use Rattle.ferrite_run.specs.Reading.{OnLitmus, OnModel}
+
+-- the answer to a test of which a call or the question is refused
+abbrev pub IsUnresolved : Test → List Site → Answer → Type 0
+IsUnresolved litmus sites answer = (line : ℕ) × (kind : CallKind) × IsCallRefused litmus sites line kind × (answer ≡ LitmusRefused line (kind_number kind))
+
+-- the calls of a test with these sites become events
+abbrev pub Resolve : Test → List Site → (Trace → Answer → Type 0) → Answer → Type 0
+Resolve litmus sites Next answer = Step Trace (IsUnresolved litmus sites) (HasEvents litmus sites) Next answer
+
+-- these are the pairs of the events that the model keeps
+pub record AreKept (model : Model) (events : List Event) (pairs : PairList) : Type 0 where
+  pub counted : pairs.n ≡ length events
+  pub listed : IsListed pairs
+  pub exactly : (a b : ℕ) → Contains pairs.pairs (a, b) ↔ IsKept model events a b
+
+-- the model says which pairs of the events are kept
+abbrev pub Keep : Model → List Event → (PairList → Answer → Type 0) → Answer → Type 0
+Keep model events Next answer = Step PairList (λ _. ⊥) (AreKept model events) Next answer
+
+-- the litmus file, then the model, then the events of the test, and those pairs of them that the model keeps
+abbrev pub OnQuestion : Option Held → (List ℕ → Type 0) → List ℕ → ModelName → (Question → Answer → Type 0) → Answer → Type 0
+OnQuestion told rose litmus model Next answer =
+    OnLitmus told rose litmus
+    (λ test. OnModel told rose model
+    (λ read. Resolve test []
+    (λ trace. Keep read trace.events
+    (λ pairs. Next (record { litmus = test; events = trace; pairs = pairs }))))) answer

@@ -1,0 +1,12 @@
+-- Private: what is answered where a command was found in the words, or none.
+use Rattle.std.specs.Prelude.{◌≡◌, ◌⊎◌, ℕ, List, Option, Some, None}
+use Rattle.fer_outside.specs.Held.{Held}
+use Rattle.command_line.specs.declared.commands.Command.{Command}
+use Rattle.report.specs.Answers.{Answer, Usage}
+use Rattle.ferrite_run.specs.Built.{IsBuilt}
+use Rattle.ferrite_run.specs.Answers.{IsReply}
+
+abbrev pub IsFoundReply : Option Held → (List ℕ → Type 0) → Option Command → Answer → Type 0
+IsFoundReply told rose None answer = answer ≡ Usage
+IsFoundReply told rose (Some command) answer =
+    (IsBuilt command × IsReply told rose command answer) ⊎ ((IsBuilt command → ⊥) × (answer ≡ Usage))

@@ -1,0 +1,43 @@
+-- The steps in which the litmus file and the model are fetched and read.
+use Rattle.std.specs.Prelude.{◌≡◌, ℕ, List, Option}
+use Rattle.fer_outside.specs.Held.{Held}
+use Rattle.litmus_syntax.specs.Test.{Test}
+use Rattle.litmus_reader.specs.declared.fault.LitmusKind.{LitmusKind}
+use Rattle.litmus_reader.specs.Kinds as litmus_kind
+use Rattle.litmus_reader.specs.LitmusText.{IsLitmusText, IsLitmusRefused}
+use Rattle.model_reader.specs.declared.model.Model.{Model}
+use Rattle.model_reader.specs.declared.fault.ModelKind.{ModelKind}
+use Rattle.model_reader.specs.Kinds as model_kind
+use Rattle.model_reader.specs.ModelText.{IsModelText, IsModelRefused}
+use Rattle.model_library.specs.ShippedModels.{shipped_text}
+use Rattle.command_line.specs.declared.commands.ModelName.{ModelName}
+use Rattle.command_line.specs.declared.commands.ModelName.TheVariants.{Shipped, File}
+use Rattle.report.specs.declared.outcome.Role.TheVariants.{LitmusFile, ModelFile}
+use Rattle.report.specs.Answers.{Answer, LitmusRefused, ModelRefused}
+use Rattle.ferrite_run.specs.Steps.{Step}
+use Rattle.ferrite_run.specs.Fetching.{Fetch}
+
+-- the answer to bytes that are no litmus file
+abbrev pub IsNoLitmus : List ℕ → Answer → Type 0
+IsNoLitmus bytes answer = (line : ℕ) × (kind : LitmusKind) × IsLitmusRefused bytes line kind × (answer ≡ LitmusRefused line (litmus_kind.kind_number kind))
+
+-- bytes are read as a litmus file
+abbrev pub ReadLitmus : List ℕ → (Test → Answer → Type 0) → Answer → Type 0
+ReadLitmus bytes Next answer = Step Test (IsNoLitmus bytes) (IsLitmusText bytes) Next answer
+
+-- the answer to bytes that are no model
+abbrev pub IsNoModel : List ℕ → Answer → Type 0
+IsNoModel bytes answer = (line : ℕ) × (kind : ModelKind) × IsModelRefused bytes line kind × (answer ≡ ModelRefused line (model_kind.kind_number kind))
+
+-- bytes are read as a model
+abbrev pub ReadModel : List ℕ → (Model → Answer → Type 0) → Answer → Type 0
+ReadModel bytes Next answer = Step Model (IsNoModel bytes) (IsModelText bytes) Next answer
+
+-- the litmus file of this name is fetched, then read
+abbrev pub OnLitmus : Option Held → (List ℕ → Type 0) → List ℕ → (Test → Answer → Type 0) → Answer → Type 0
+OnLitmus told rose name Next answer = Fetch told rose LitmusFile name (λ bytes. ReadLitmus bytes Next) answer
+
+-- the model is read; one that doesn't come with Ferrite is fetched before
+abbrev pub OnModel : Option Held → (List ℕ → Type 0) → ModelName → (Model → Answer → Type 0) → Answer → Type 0
+OnModel told rose (Shipped shipped) Next answer = ReadModel (shipped_text shipped) Next answer
+OnModel told rose (File name) Next answer = Fetch told rose ModelFile name (λ bytes. ReadModel bytes Next) answer
