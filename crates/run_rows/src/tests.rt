@@ -39,18 +39,19 @@ fn written(
     Ok(all)
 }
 
-/// What a command writes about a file of these bytes under the sequential model, and the status as the last byte.
+/// The words of a command on the file `a.lit`, under the sequential model where it takes one.
+fn words_about(command: &str) -> &'static [&'static str] {
+    match command {
+        "show" => &["show", "a.lit"],
+        "events" => &["events", "a.lit", "@sequential"],
+        _ => &["check", "a.lit", "@sequential"],
+    }
+}
+
+/// What a command writes about a file of these bytes, and the status as the last byte.
 fn written_about(alloc: Global, command: &str, bytes: &[u8]) -> Result<Vec<u8>, AllocError> {
     let files = [("a.lit", bytes)];
-    if command == "show" {
-        return written(alloc, &[command, "a.lit"], files.as_slice(), 0);
-    }
-    written(
-        alloc,
-        &[command, "a.lit", "@sequential"],
-        files.as_slice(),
-        0,
-    )
+    written(alloc, words_about(command), files.as_slice(), 0)
 }
 
 /// The command, the file, what is written and, as the last byte, the status.
