@@ -6,7 +6,7 @@ use Rattle.std.proofs.lemmas.Bool.Decides.{nat_tests}
 use Rattle.std.proofs.lemmas.List.{get_or-set_other, get_or-set_same}
 use Rattle.std.proofs.lemmas.Nat.Bits.{bit_at-zero, bit_at_and, bit_at-lt}
 use Rattle.event_relations.specs.Rows.{has}
-use Rattle.event_relations.proofs.Joining.{past, has_within, or_row, or_cases, or_left, or_right}
+use Rattle.event_relations.proofs.Joining.{past, or_row}
 
 -- the rows before `a` are as they have to be, beside their number and what they were; the others are as they were
 pub record AreChanged (Row : ℕ → ℕ → ℕ → Type 0) (init rows : List ℕ) (a : ℕ) : Type 0 where
@@ -74,48 +74,6 @@ met_out right c b = no_bit b ∙ ap (λ (s : Bool). s && has right c b) (sym (no
 -- composition
 abbrev pub Reaches : List ℕ → ℕ → ℕ → Type 0
 Reaches rows row b = (c : ℕ) × (bit_at row c ≡ 1) × (has rows c b ≡ true)
-
-abbrev pub ReachesBelow : List ℕ → ℕ → ℕ → ℕ → Type 0
-ReachesBelow rows row k b = (c : ℕ) × (c < k) × (bit_at row c ≡ 1) × (has rows c b ≡ true)
-
-pub reached_start : (rows : List ℕ) (row b : ℕ) → (bit_at 0 b ≡ 1) ↔ ReachesBelow rows row 0 b
-reached_start rows row b = (
-  λ h. absurd (omega (arith, h, bit_at-zero b)),
-  λ h. absurd (omega (arith, h.1)),
-)
-
-pub reached_taken :
-    (rows : List ℕ) (row k all : ℕ) → ((b : ℕ) → (bit_at all b ≡ 1) ↔ ReachesBelow rows row k b) → bit_at row k ≡ 1
-    → (b : ℕ) → (bit_at (bit_or all (get_or rows k 0)) b ≡ 1) ↔ ReachesBelow rows row (k + 1) b
-reached_taken rows row k all is bit b = (
-  λ h. elim (or_cases _ _ (sym (or_row all (get_or rows k 0) b) ∙ eq-eqb _ _ h)) [
-    | inl e ↦ let old = (is b).0 (eqb-true _ _ e) in (old.0, omega (arith, old.1), old.2, old.3)
-    | inr e ↦ (k, omega arith, bit, e)
-  ],
-  λ h. eqb-true _ _ (or_row all (get_or rows k 0) b ∙ elim (cases_eq h.0 k) [
-    | inl same ↦ or_right _ _ (subst (λ (c : ℕ). has rows c b ≡ true) same h.3)
-    | inr apart ↦ or_left _ _ (eq-eqb _ _ ((is b).1 (h.0, omega (arith, h.1), h.2, h.3)))
-  ]),
-)
-
-pub reached_skipped :
-    (rows : List ℕ) (row k all : ℕ) → ((b : ℕ) → (bit_at all b ≡ 1) ↔ ReachesBelow rows row k b) → (bit_at row k ≡ 1 → ⊥)
-    → (b : ℕ) → (bit_at all b ≡ 1) ↔ ReachesBelow rows row (k + 1) b
-reached_skipped rows row k all is none b = (
-  λ h. let old = (is b).0 h in (old.0, omega (arith, old.1), old.2, old.3),
-  λ h. elim (cases_eq h.0 k) [
-    | inl same ↦ absurd (none (subst (λ (c : ℕ). bit_at row c ≡ 1) same h.2))
-    | inr apart ↦ (is b).1 (h.0, omega (arith, h.1), h.2, h.3)
-  ],
-)
-
-pub reached_end :
-    (rows : List ℕ) (row k all : ℕ) → ((b : ℕ) → (bit_at all b ≡ 1) ↔ ReachesBelow rows row k b) → length rows ≤ k
-    → (b : ℕ) → (bit_at all b ≡ 1) ↔ Reaches rows row b
-reached_end rows row k all is far b = (
-  λ h. let old = (is b).0 h in (old.0, old.2, old.3),
-  λ h. (is b).1 (h.0, omega (arith, far, has_within rows h.0 b h.2), h.1, h.2),
-)
 
 abbrev pub ComposedRow : List ℕ → ℕ → ℕ → ℕ → Type 0
 ComposedRow right c old new = (b : ℕ) → (bit_at new b ≡ 1) ↔ Reaches right old b

@@ -12,6 +12,7 @@ use Rattle.model_reader.specs.declared.expr.Expr.{Expr}
 use Rattle.event_relations.specs.Rows.{has}
 use Rattle.event_relations.specs.Words.{Relates}
 use Rattle.event_relations.specs.Showing.{RelatesPlaces}
+use Rattle.event_relations.specs.Lexicons.{ShowsWord}
 
 abbrev pub InRow : List Event → ℕ → Event → Expr → ℕ → Type 0
 InRow events a e x b = (f : Event) × (slice_get events b ≡ Some f) × Relates (suc a) (suc b) e f x
@@ -23,7 +24,7 @@ RowBelow events a e x row k = (b : ℕ) → (bit_at row b ≡ 1) ↔ ((b < k) ×
 pub row_start : (events : List Event) (a : ℕ) (e : Event) (x : Expr) → RowBelow events a e x 0 0
 row_start events a e x b = (λ h. absurd (omega (arith, h, bit_at-zero b)), λ h. absurd (omega (arith, h.0)))
 
-same_value : (f g : Event) → Some f ≡ Some g → f ≡ g
+pub same_value : (f g : Event) → Some f ≡ Some g → f ≡ g
 same_value f g e = cc
 
 pub row_taken :
@@ -87,7 +88,7 @@ rows_more events x rows k row e is there new = record {
   ];
 }
 
-pub rows_end :
+rows_end :
     (events : List Event) (x : Expr) (rows : List ℕ) (k : ℕ) → RowsBelow events x rows k → k ≡ length events
     → (a b : ℕ) → (has rows a b ≡ true) ↔ RelatesPlaces events x a b
 rows_end events x rows k is all a b = (
@@ -99,3 +100,6 @@ rows_end events x rows k is all a b = (
       ],
   λ h. eq-eqb _ _ ((is.shown a h.0 (omega (arith, all, slice_get_within events a h.0 h.2)) h.2 b).1 (h.1, h.3, h.4)),
 )
+
+pub rows_shown : (events : List Event) (x : Expr) (rows : List ℕ) (k : ℕ) → RowsBelow events x rows k → k ≡ length events → ShowsWord events x rows
+rows_shown events x rows k is all = record { long = is.length ∙ all; bits = rows_end events x rows k is all }

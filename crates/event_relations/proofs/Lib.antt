@@ -4,10 +4,14 @@ pub mod Inverting
 pub mod Joining
 pub mod Sounding
 pub mod Examples
+pub mod LowestBits
 pub mod Changing
+pub mod Gathering
 pub mod WordTests
 pub mod Showing
 pub mod Filling
+pub mod Diagonals
+pub mod Transitive
 pub mod RowRounds
 pub mod Rising
 pub mod Naming

@@ -1,12 +1,11 @@
 -- When the words relate two events, word by word.
-use Rattle.std.proofs.Common.{◌≡◌, ℕ, ◌<◌, ◌↔◌, Bool, true, false, refl, sym, subst}
-use Rattle.std.specs.Int.{bit_at}
+use Rattle.std.proofs.Common.{◌≡◌, ℕ, ◌<◌, ◌↔◌, Bool, true, refl, sym, subst}
 use Rattle.fer_events.specs.declared.event.Event.{Event}
 use Rattle.model_reader.specs.declared.expr.Expr as whole
 use Rattle.model_reader.specs.declared.expr.Expr.{Expr}
 use Rattle.model_reader.specs.declared.expr.Expr.TheVariants as expr
-use Rattle.event_relations.specs.Words.{Relates, BothCarry, kind_place}
-use Rattle.event_relations.specs.Words.Relates.{earlier, itself, any, file, block, dir, name, call, txn, kinds}
+use Rattle.event_relations.specs.Words.{Relates, BothCarry}
+use Rattle.event_relations.specs.Words.Relates.{earlier, itself, any, file, block, dir, name, call, txn}
 use Rattle.event_relations.proofs.Inverting.{relates_opened}
 
 -- a test that decides when the word relates decides so of an expression that is the word
@@ -47,27 +46,3 @@ is-Any a b e f = (λ t. any, λ s. refl)
 pub is-SameBlock : (a b : ℕ) (e f : Event) (r : Bool) → (r ≡ true) ↔ (BothCarry e.file f.file × BothCarry e.block f.block) → (r ≡ true) ↔ Relates a b e f expr.SameBlock
 unfolding whole.out-Expr denote.Hole.Carrier.out Rattle.model_reader.specs.declared.expr.Expr.TheBlock.shown-the_row-Expr-0 denote.Hole.Carrier.shown denote.Hole.Carrier.hidden
 is-SameBlock a b e f r h = (λ t. block (h.0 t).0 (h.0 t).1, λ s. h.1 (relates_opened a b e f expr.SameBlock s))
-
-pub is-Kinds : (a b : ℕ) (e f : Event) (bits : ℕ) (r : Bool) → (r ≡ true) ↔ ((a ≡ b) × (bit_at bits (kind_place e.kind) ≡ 1)) → (r ≡ true) ↔ Relates a b e f (expr.Kinds bits)
-unfolding whole.out-Expr denote.Hole.Carrier.out Rattle.model_reader.specs.declared.expr.Expr.TheBlock.shown-the_row-Expr-0 denote.Hole.Carrier.shown denote.Hole.Carrier.hidden
-is-Kinds a b e f bits r h = (λ t. kinds bits (h.0 t).0 (h.0 t).1, λ s. h.1 (relates_opened a b e f (expr.Kinds bits) s))
-
-pub not-Named : (a b : ℕ) (e f : Event) (i : ℕ) → (false ≡ true) ↔ Relates a b e f (expr.Named i)
-unfolding whole.out-Expr denote.Hole.Carrier.out Rattle.model_reader.specs.declared.expr.Expr.TheBlock.shown-the_row-Expr-0 denote.Hole.Carrier.shown denote.Hole.Carrier.hidden
-not-Named a b e f i = (λ t. absurd (cc), λ s. absurd (relates_opened a b e f (expr.Named i) s))
-
-pub not-Or : (a b : ℕ) (e f : Event) (x y : Expr) → (false ≡ true) ↔ Relates a b e f (expr.Or x y)
-unfolding whole.out-Expr denote.Hole.Carrier.out Rattle.model_reader.specs.declared.expr.Expr.TheBlock.shown-the_row-Expr-0 denote.Hole.Carrier.shown denote.Hole.Carrier.hidden
-not-Or a b e f x y = (λ t. absurd (cc), λ s. absurd (relates_opened a b e f (expr.Or x y) s))
-
-pub not-And : (a b : ℕ) (e f : Event) (x y : Expr) → (false ≡ true) ↔ Relates a b e f (expr.And x y)
-unfolding whole.out-Expr denote.Hole.Carrier.out Rattle.model_reader.specs.declared.expr.Expr.TheBlock.shown-the_row-Expr-0 denote.Hole.Carrier.shown denote.Hole.Carrier.hidden
-not-And a b e f x y = (λ t. absurd (cc), λ s. absurd (relates_opened a b e f (expr.And x y) s))
-
-pub not-Seq : (a b : ℕ) (e f : Event) (x y : Expr) → (false ≡ true) ↔ Relates a b e f (expr.Seq x y)
-unfolding whole.out-Expr denote.Hole.Carrier.out Rattle.model_reader.specs.declared.expr.Expr.TheBlock.shown-the_row-Expr-0 denote.Hole.Carrier.shown denote.Hole.Carrier.hidden
-not-Seq a b e f x y = (λ t. absurd (cc), λ s. absurd (relates_opened a b e f (expr.Seq x y) s))
-
-pub not-Plus : (a b : ℕ) (e f : Event) (x : Expr) → (false ≡ true) ↔ Relates a b e f (expr.Plus x)
-unfolding whole.out-Expr denote.Hole.Carrier.out Rattle.model_reader.specs.declared.expr.Expr.TheBlock.shown-the_row-Expr-0 denote.Hole.Carrier.shown denote.Hole.Carrier.hidden
-not-Plus a b e f x = (λ t. absurd (cc), λ s. absurd (relates_opened a b e f (expr.Plus x) s))

@@ -1,10 +1,14 @@
 -- Private: relations as rows of bits: bit b of row a stands for the pair (a, b), both counted from 0.
-use Rattle.std.specs.Prelude.{◌≡◌, ℕ, ◌<◌, ◌^◌, Bool, true, ◌==◌, List, length, slice_index, bit_or}
+use Rattle.std.specs.Prelude.{◌≡◌, ℕ, ◌+◌, ◌<◌, ◌^◌, Bool, true, ◌==◌, List, length, slice_index, bit_or}
 use Rattle.std.specs.Int.{bit_at}
 
 -- the bit of a pair
 abbrev pub has : List ℕ → ℕ → ℕ → Bool
 has rows a b = bit_at (slice_index rows a) b == 1
+
+-- some row has b whose bit is set in the word, the lowest bit standing for the row at `first`
+abbrev pub ReachesFrom : List ℕ → ℕ → ℕ → ℕ → Type 0
+ReachesFrom rows first word b = (c : ℕ) × (bit_at word c ≡ 1) × (has rows (first + c) b ≡ true)
 
 -- a path of one or more pairs leads from a to b
 pub data Joins (rows : List ℕ) : ℕ → ℕ → Type 0 where

@@ -23,6 +23,12 @@ abbrev pub names_shown : List (List ℕ) → Names
 names_shown names i (suc a) (suc b) = has (slice_index_or names i []) a b ≡ true
 names_shown names i _ _ = ⊥
 
+-- whatever the names stand for, the expression relates what a path of two of its pairs joins
+abbrev pub IsTransitive : Expr → Type 0
+IsTransitive x =
+    (events : List Event) (names : List (List ℕ)) (a b c : ℕ)
+    → Means events (names_shown names) x a b → Means events (names_shown names) x b c → Means events (names_shown names) x a c
+
 -- the word relates the events at these places, which are counted from 0
 abbrev pub RelatesPlaces : List Event → Expr → ℕ → ℕ → Type 0
 RelatesPlaces events x a b =

@@ -2,9 +2,11 @@ ghost use Rattle.std.specs.Prelude.{◌≡◌, ◌↔◌, ℕ, ◌≤◌, length
 ghost use Rattle.fer_events.specs.Pairs.{PairList};
 ghost use Rattle.fer_events.specs.Orders.{AreForward};
 ghost use Rattle.event_relations.specs.Kept.{IsKept, IsKeptBy};
+ghost use Rattle.event_relations.specs.Lexicons.{IsLexicon};
 ghost use Rattle.event_relations.specs.Showing.{GetsKept, NamesWithin, names_shown};
 
 use crate::forward::put_forward;
+use crate::lexicon::Lexicon;
 use crate::relating::relate;
 use crate::rounds::name_rows;
 use fer_events::{Event, Events, Pairs};
@@ -16,18 +18,20 @@ use std::alloc::{AllocError, Global};
 fn put_kept(
     alloc: Global,
     events: &[Event],
+    words: &Lexicon,
     names: &[Seq<u128>],
     kept: &Expr,
     pairs: &mut Pairs,
 ) -> Result<(), AllocError>
     requires few { length events.now ≤ 128 }
+    requires words { IsLexicon events.now words.now }
     requires n { pairs.old.n ≡ length events.now }
     requires long { All (λ rows. length rows ≡ length events.now) names.now }
     requires within { NamesWithin events.now (names_shown names.now) }
     ensures n { pairs.new.n ≡ pairs.old.n }
     ensures pairs { OnOk result (GetsKept events.now (names_shown names.now) kept.now pairs.old pairs.new) }
 {
-    let rows = relate(alloc, events, names, kept)?;
+    let rows = relate(alloc, events, words, names, kept)?;
     put_forward(pairs, rows.as_slice());
     Ok(())
 }
@@ -41,10 +45,11 @@ pub fn kept(alloc: Global, model: &Model, events: &Events) -> Result<Pairs, Allo
 {
     events.keeps_rules();
     let list = events.events();
-    let names = name_rows(alloc, list, model.lets.as_slice())?;
+    let words = Lexicon::new(alloc, list)?;
+    let names = name_rows(alloc, list, &words, model.lets.as_slice())?;
     let mut pairs = Pairs::new(list.len() as u32);
     for line in model.keeps.as_slice() {
-        put_kept(alloc, list, names.as_slice(), line, &mut pairs)?;
+        put_kept(alloc, list, &words, names.as_slice(), line, &mut pairs)?;
     }
     Ok(pairs)
 }
@@ -60,11 +65,12 @@ pub fn kept_by(alloc: Global, model: &Model, events: &Events) -> Result<Seq<Pair
 {
     events.keeps_rules();
     let list = events.events();
-    let names = name_rows(alloc, list, model.lets.as_slice())?;
+    let words = Lexicon::new(alloc, list)?;
+    let names = name_rows(alloc, list, &words, model.lets.as_slice())?;
     let mut lines = Seq::new(alloc);
     for line in model.keeps.as_slice() {
         let mut pairs = Pairs::new(list.len() as u32);
-        put_kept(alloc, list, names.as_slice(), line, &mut pairs)?;
+        put_kept(alloc, list, &words, names.as_slice(), line, &mut pairs)?;
         lines.push(pairs)?;
     }
     Ok(lines)

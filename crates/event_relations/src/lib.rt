@@ -7,7 +7,9 @@
 
 mod forward;
 mod keep_lines;
+mod kinds;
 mod laws;
+mod lexicon;
 mod operators;
 mod relating;
 mod rounds;

@@ -2,12 +2,13 @@ ghost use Rattle.std.specs.Prelude.{◌≡◌, ℕ, suc, ◌<◌, ◌≤◌, ◌
 ghost use Rattle.model_reader.specs.declared.expr.Expr.{Expr};
 ghost use Rattle.model_reader.specs.declared.expr.Expr.TheVariants as expr;
 ghost use Rattle.event_relations.specs.Rows.{has, Joins};
+ghost use Rattle.event_relations.specs.Lexicons.{IsLexicon};
 ghost use Rattle.event_relations.specs.Meaning.{Means};
-ghost use Rattle.event_relations.specs.Showing.{Shows, names_shown};
+ghost use Rattle.event_relations.specs.Showing.{IsTransitive, Shows, names_shown};
 
+use crate::lexicon::Lexicon;
 use crate::operators::{compose, meet, unite};
-use crate::rows::close;
-use crate::tables::word_rows;
+use crate::rows::{close, empty_rows};
 use fer_events::Event;
 use fer_list::Seq;
 use model_reader::Expr;
@@ -28,7 +29,6 @@ pub fn united(left: Seq<u128>, right: &[u128]) -> Seq<u128>
 /// What an operator with two operands makes of their rows.
 fn operated(x: &Expr, left: Seq<u128>, right: &[u128]) -> Seq<u128>
     requires same { length left ≡ length right.now }
-    requires few { length right.now ≤ 128 }
     ensures length { length result ≡ length left }
     ensures union { (l r : Expr) → x.now ≡ expr.Or l r → (a b : ℕ) → has result a b ≡ has left a b || has right.now a b }
     ensures intersection { (l r : Expr) → x.now ≡ expr.And l r → (a b : ℕ) → has result a b ≡ has left a b && has right.now a b }
@@ -44,13 +44,27 @@ fn operated(x: &Expr, left: Seq<u128>, right: &[u128]) -> Seq<u128>
     Seq::from_vec(rows)
 }
 
-/// Each pair that a path of one or more joins.
-fn closed(inner: Seq<u128>) -> Seq<u128>
-    requires few { length inner ≤ 128 }
-    ensures length { length result ≡ length inner }
-    ensures joined { (a b : ℕ) → (has result a b ≡ true) ↔ Joins inner a b }
+/// Whether it is plain that the expression relates all that a path of its pairs joins: so does each word, and a closure.
+fn is_transitive(x: &Expr) -> bool
+    ensures { result ≡ true → IsTransitive x.now }
 {
-    let mut rows = inner.into_vec();
+    match x {
+        Expr::Named { .. } | Expr::Or { .. } | Expr::And { .. } | Expr::Seq { .. } => false,
+        _ => true,
+    }
+}
+
+/// Each pair that a path of one or more joins, where the rows are those of the expression.
+fn closed(x: &Expr, rows: Seq<u128>) -> Seq<u128>
+    requires few { length rows ≤ 128 }
+    requires paths { IsTransitive x.now → (a b : ℕ) → Joins rows a b → has rows a b ≡ true }
+    ensures length { length result ≡ length rows }
+    ensures joined { (a b : ℕ) → (has result a b ≡ true) ↔ Joins rows a b }
+{
+    if is_transitive(x) {
+        return rows;
+    }
+    let mut rows = rows.into_vec();
     close(rows.as_mut_slice());
     Seq::from_vec(rows)
 }
@@ -78,26 +92,16 @@ fn named_rows(
     }
 }
 
-/// Rows without pairs.
-pub fn empty_rows(alloc: Global, count: usize) -> Result<Seq<u128>, AllocError>
-    ensures length { IfOk result (λ rows. length rows ≡ count) }
-    ensures bits { IfOk result (λ rows. (a b : ℕ) → has rows a b ≡ false) }
-{
-    let mut rows = Seq::new(alloc);
-    for a in 0..count {
-        rows.push(0)?;
-    }
-    Ok(rows)
-}
-
 /// The rows of what the expression relates, where the names stand for these rows. Its stack is as deep as the expression.
 pub fn relate(
     alloc: Global,
     events: &[Event],
+    words: &Lexicon,
     names: &[Seq<u128>],
     x: &Expr,
 ) -> Result<Seq<u128>, AllocError>
     requires few { length events.now ≤ 128 }
+    requires words { IsLexicon events.now words.now }
     requires long { All (λ rows. length rows ≡ length events.now) names.now }
     ensures length { IfOk result (λ rows. length rows ≡ length events.now) }
     ensures shows { IfOk result (λ rows. Shows rows (Means events.now (names_shown names.now) x.now)) }
@@ -106,15 +110,15 @@ pub fn relate(
     let rows = match x {
         Expr::Named { index } => named_rows(alloc, events.len(), names, *index)?,
         Expr::Or { left, right } | Expr::And { left, right } | Expr::Seq { left, right } => {
-            let left_rows = relate(alloc, events, names, left.get())?;
-            let right_rows = relate(alloc, events, names, right.get())?;
+            let left_rows = relate(alloc, events, words, names, left.get())?;
+            let right_rows = relate(alloc, events, words, names, right.get())?;
             operated(x, left_rows, right_rows.as_slice())
         }
         Expr::Plus { inner } => {
-            let inner_rows = relate(alloc, events, names, inner.get())?;
-            closed(inner_rows)
+            let inner_rows = relate(alloc, events, words, names, inner.get())?;
+            closed(inner.get(), inner_rows)
         }
-        _ => word_rows(alloc, events, x)?,
+        _ => words.rows(alloc, events, x)?,
     };
     Ok(rows)
 }

@@ -1,8 +1,11 @@
 ghost use Rattle.std.specs.Prelude.{◌≡◌, ℕ, ◌<◌, ◌≤◌, true, length, All, OnOk, MatchBool, IfOk};
 ghost use Rattle.event_relations.specs.Rows.{AreAmong, HasNew};
+ghost use Rattle.event_relations.specs.Lexicons.{IsLexicon};
 ghost use Rattle.event_relations.specs.Showing.{AreNames, HasOneMore, NamesWithin, names_shown};
 
-use crate::relating::{empty_rows, relate, united};
+use crate::lexicon::Lexicon;
+use crate::relating::{relate, united};
+use crate::rows::empty_rows;
 use fer_events::Event;
 use fer_list::Seq;
 use model_reader::{Definition, Expr};
@@ -25,10 +28,12 @@ fn are_within(left: &[u128], right: &[u128]) -> bool
 fn define_least(
     alloc: Global,
     events: &[Event],
+    words: &Lexicon,
     names: &mut Seq<Seq<u128>>,
     value: &Expr,
 ) -> Result<(), AllocError>
     requires few { length events.now ≤ 128 }
+    requires words { IsLexicon events.now words.now }
     requires long { All (λ rows. length rows ≡ length events.now) names.old }
     requires within { NamesWithin events.now (names_shown names.old) }
     ensures { OnOk result (HasOneMore events.now true value.now names.old names.new) }
@@ -37,7 +42,7 @@ fn define_least(
     let none = empty_rows(alloc, events.len())?;
     names.push(none)?;
     loop {
-        let more = relate(alloc, events, names.as_slice(), value)?;
+        let more = relate(alloc, events, words, names.as_slice(), value)?;
         let rows = names.get(own);
         if are_within(more.as_slice(), rows.as_slice()) {
             return Ok(());
@@ -51,18 +56,20 @@ fn define_least(
 fn define(
     alloc: Global,
     events: &[Event],
+    words: &Lexicon,
     names: &mut Seq<Seq<u128>>,
     definition: &Definition,
 ) -> Result<(), AllocError>
     requires few { length events.now ≤ 128 }
+    requires words { IsLexicon events.now words.now }
     requires long { All (λ rows. length rows ≡ length events.now) names.old }
     requires within { NamesWithin events.now (names_shown names.old) }
     ensures { OnOk result (HasOneMore events.now definition.now.recursive definition.now.value names.old names.new) }
 {
     if definition.recursive {
-        define_least(alloc, events, names, &definition.value)?;
+        define_least(alloc, events, words, names, &definition.value)?;
     } else {
-        let rows = relate(alloc, events, names.as_slice(), &definition.value)?;
+        let rows = relate(alloc, events, words, names.as_slice(), &definition.value)?;
         names.push(rows)?;
     }
     Ok(())
@@ -72,14 +79,16 @@ fn define(
 pub fn name_rows(
     alloc: Global,
     events: &[Event],
+    words: &Lexicon,
     lets: &[Definition],
 ) -> Result<Seq<Seq<u128>>, AllocError>
     requires few { length events.now ≤ 128 }
+    requires words { IsLexicon events.now words.now }
     ensures { IfOk result (λ names. AreNames events.now lets.now names) }
 {
     let mut names = Seq::new(alloc);
     for definition in lets {
-        define(alloc, events, &mut names, definition)?;
+        define(alloc, events, words, &mut names, definition)?;
     }
     Ok(names)
 }

@@ -1,24 +1,22 @@
-ghost use Rattle.std.specs.Prelude.{◌≡◌, ℕ, suc, ◌<◌, ◌≤◌, true, length, ◌↔◌, IfOk, slice_get, Some};
+ghost use Rattle.std.specs.Prelude.{◌≡◌, ℕ, suc, ◌<◌, ◌≤◌, length, ◌↔◌, IfOk, slice_get, Some};
 ghost use Rattle.std.specs.Int.{bit_at};
 ghost use Rattle.fer_events.specs.declared.event.Event.{Event};
-ghost use Rattle.event_relations.specs.Rows.{has};
 ghost use Rattle.event_relations.specs.Words.{Relates};
-ghost use Rattle.event_relations.specs.Showing.{RelatesPlaces};
+ghost use Rattle.event_relations.specs.Lexicons.{ShowsWord, as_expr};
 
-use crate::words::relates;
+use crate::words::{Word, relates};
 use fer_events::Event;
 use fer_list::Seq;
-use model_reader::Expr;
 use std::alloc::{AllocError, Global};
 
 /// The row of the events that the word relates event e to, which has the number a counted from 0.
-fn word_row(a: usize, e: &Event, events: &[Event], x: &Expr) -> u128
+fn word_row(a: usize, e: &Event, events: &[Event], word: Word) -> u128
     requires few { length events.now ≤ 128 }
-    ensures { (b : ℕ) → (bit_at result b ≡ 1) ↔ ((f : Event) × (slice_get events.now b ≡ Some f) × Relates (suc a) (suc b) e.now f x.now) }
+    ensures { (b : ℕ) → (bit_at result b ≡ 1) ↔ ((f : Event) × (slice_get events.now b ≡ Some f) × Relates (suc a) (suc b) e.now f (as_expr word)) }
 {
     let mut row = 0;
     for b in 0..events.len() {
-        if relates(a, b, e, &events[b], x) {
+        if relates(a, b, e, &events[b], word) {
             row = row | (1 << b);
         }
     }
@@ -26,14 +24,13 @@ fn word_row(a: usize, e: &Event, events: &[Event], x: &Expr) -> u128
 }
 
 /// The rows of what the word relates.
-pub fn word_rows(alloc: Global, events: &[Event], x: &Expr) -> Result<Seq<u128>, AllocError>
+pub fn word_rows(alloc: Global, events: &[Event], word: Word) -> Result<Seq<u128>, AllocError>
     requires few { length events.now ≤ 128 }
-    ensures length { IfOk result (λ rows. length rows ≡ length events.now) }
-    ensures bits { IfOk result (λ rows. (a b : ℕ) → (has rows a b ≡ true) ↔ RelatesPlaces events.now x.now a b) }
+    ensures { IfOk result (λ rows. ShowsWord events.now (as_expr word) rows) }
 {
     let mut rows = Seq::new(alloc);
     for a in 0..events.len() {
-        let row = word_row(a, &events[a], events, x);
+        let row = word_row(a, &events[a], events, word);
         rows.push(row)?;
     }
     Ok(rows)

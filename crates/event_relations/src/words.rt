@@ -1,8 +1,22 @@
 ghost use Rattle.std.specs.Prelude.{◌≡◌, ℕ, suc, ◌<◌, ◌≤◌, true, ◌↔◌};
-ghost use Rattle.event_relations.specs.Words.{BothCarry, Relates, kind_place};
+ghost use Rattle.event_relations.specs.Words.{BothCarry, Relates};
+ghost use Rattle.event_relations.specs.Lexicons.{as_expr};
 
-use fer_events::{Event, Kind};
-use model_reader::Expr;
+use fer_events::Event;
+
+/// A word of models that relates two events by what they carry or by their numbers.
+#[derive(Clone, Copy)]
+pub enum Word {
+    Po,
+    Id,
+    Any,
+    SameFile,
+    SameBlock,
+    SameDir,
+    SameName,
+    SameCall,
+    SameTxn,
+}
 
 /// Whether both carry a number here, and the same.
 fn both_carry(left: Option<u32>, right: Option<u32>) -> bool
@@ -14,55 +28,24 @@ fn both_carry(left: Option<u32>, right: Option<u32>) -> bool
     }
 }
 
-/// The place of a kind among the kinds, from 0.
-fn place_of(kind: Kind) -> u32
-    ensures place { result ≡ kind_place kind }
-    ensures few { result < 10 }
+/// Whether the word relates event e to event f, which have the numbers a and b counted from 0.
+pub fn relates(a: usize, b: usize, e: &Event, f: &Event, word: Word) -> bool
+    ensures { (result ≡ true) ↔ Relates (suc a) (suc b) e.now f.now (as_expr word) }
 {
-    match kind {
-        Kind::Write => 0,
-        Kind::Extend => 1,
-        Kind::Trunc => 2,
-        Kind::Attr => 3,
-        Kind::Link => 4,
-        Kind::Unlink => 5,
-        Kind::Fsync => 6,
-        Kind::FsyncDir => 7,
-        Kind::Sync => 8,
-        Kind::Mark => 9,
-    }
-}
-
-/// Whether the word relates event e to event f, which have the numbers a and b counted from 0; an operator relates none
-/// by itself.
-pub fn relates(a: usize, b: usize, e: &Event, f: &Event, x: &Expr) -> bool
-    ensures { (result ≡ true) ↔ Relates (suc a) (suc b) e.now f.now x.now }
-{
-    match x {
-        Expr::Po => a < b,
-        Expr::Id => a == b,
-        Expr::Any => true,
-        Expr::SameFile => both_carry(e.file, f.file),
-        Expr::SameBlock => {
+    match word {
+        Word::Po => a < b,
+        Word::Id => a == b,
+        Word::Any => true,
+        Word::SameFile => both_carry(e.file, f.file),
+        Word::SameBlock => {
             if !both_carry(e.file, f.file) {
                 return false;
             }
             both_carry(e.block, f.block)
         }
-        Expr::SameDir => both_carry(e.dir, f.dir),
-        Expr::SameName => both_carry(e.slot, f.slot),
-        Expr::SameCall => e.call == f.call,
-        Expr::SameTxn => e.txn == f.txn,
-        Expr::Kinds { bits } => {
-            if a != b {
-                return false;
-            }
-            (*bits >> place_of(e.kind)) & 1 == 1
-        }
-        Expr::Named { index } => false,
-        Expr::Or { left, right } => false,
-        Expr::And { left, right } => false,
-        Expr::Seq { left, right } => false,
-        Expr::Plus { inner } => false,
+        Word::SameDir => both_carry(e.dir, f.dir),
+        Word::SameName => both_carry(e.slot, f.slot),
+        Word::SameCall => e.call == f.call,
+        Word::SameTxn => e.txn == f.txn,
     }
 }

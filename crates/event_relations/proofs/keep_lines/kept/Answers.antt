@@ -6,7 +6,10 @@ use Rattle.event_relations.proofs.Keeping.{lines_more, lines_exactly, lines_forw
 use Rattle.event_relations.proofs.keep_lines.kept.Goals as goal
 
 pub name_rows-requires : goal.name_rows-requires
-name_rows-requires c = record { few = omega (arith, c.keeps_rules.ensures.few_events, ap length c.events-list.ensures) }
+name_rows-requires c = record {
+  few = omega (arith, c.keeps_rules.ensures.few_events, ap length c.events-list.ensures);
+  words = c.in_ok-words.ensures;
+}
 
 pub loop-line-preserved : goal.loop-line-preserved
 loop-line-preserved c =

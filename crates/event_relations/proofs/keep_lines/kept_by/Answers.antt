@@ -7,7 +7,10 @@ use Rattle.event_relations.proofs.Keeping.{HasEachTo, each_more, each_forward, e
 use Rattle.event_relations.proofs.keep_lines.kept_by.Goals as goal
 
 pub name_rows-requires : goal.name_rows-requires
-name_rows-requires c = record { few = omega (arith, c.keeps_rules.ensures.few_events, ap length c.events-list.ensures) }
+name_rows-requires c = record {
+  few = omega (arith, c.keeps_rules.ensures.few_events, ap length c.events-list.ensures);
+  words = c.in_ok-words.ensures;
+}
 
 pub loop-line-preserved : goal.loop-line-preserved
 loop-line-preserved c =

@@ -5,6 +5,7 @@ use Rattle.model_reader.specs.declared.expr.Expr.TheVariants as expr
 use Rattle.event_relations.specs.Meaning.{Means, Names}
 use Rattle.event_relations.specs.Showing.{Shows, names_shown}
 use Rattle.event_relations.proofs.Showing.{names_shown_positive, shows_word, shows_operated, shows_plus, shows_named}
+use Rattle.event_relations.proofs.Transitive.{shows_joined}
 use Rattle.event_relations.proofs.relating.+relate.Goals as goal
 use Rattle.event_relations.proofs.relating.+relate.Goals.{in_default+in_ok-rows-in_default, in-Named+in_ok-rows-in-Named, in-Or+in_ok-left_rows-in-Or+in_ok-right_rows-in-Or, in-Plus+in_ok-inner_rows-in-Plus}
 
@@ -38,3 +39,12 @@ returns-clause-shows t c = elim c.match-x.branch [
       (shows_operated c.args.events.now names (names_shown_positive c.args.names.now) c.args.x.now w.in-Or.left w.in-Or.right w.in_ok-left_rows-in-Or.left_rows w.as_slice.result.now w.operated-rows.result
       w.in-Or.is left_shows right_shows w.operated-rows.ensures.union w.operated-rows.ensures.intersection w.operated-rows.ensures.sequence)
 ]
+
+pub closed-rows-requires-clause-paths : goal.closed-rows-requires-clause-paths
+closed-rows-requires-clause-paths t c joined =
+    let events = c.args.events.now in
+    let names = names_shown c.args.names.now in
+    let same : c.get.result.now ≡ c.get-in-Plus.result.now = c.get.ensures ∙ sym c.get-in-Plus.ensures in
+    shows_joined c.in_ok-inner_rows-in-Plus.inner_rows (Means events names c.get-in-Plus.result.now)
+    (operand events names c.get.result.now c.get-in-Plus.result.now c.in_ok-inner_rows-in-Plus.inner_rows same c.in_ok-inner_rows-in-Plus.ensures.shows)
+    (joined events c.args.names.now)

@@ -1,11 +1,10 @@
-use Rattle.std.proofs.Common.{◌≡◌, ℕ, suc, ◌<◌, true, ◌↔◌, ◌/◌, ◌^◌, bit_and, sym, ◌∙◌, ap, arith, eqb, ltb}
-use Rattle.std.specs.Int.{bit_at}
+use Rattle.std.proofs.Common.{◌≡◌, ℕ, suc, ◌<◌, true, ◌↔◌, ap, arith, eqb, ltb}
 use Rattle.std.proofs.lemmas.Bool.{eq-eqb, eqb-true}
 use Rattle.std.proofs.lemmas.Bool.Decides.{nat_tests}
-use Rattle.std.proofs.lemmas.Nat.Bits.{shr_and_one}
 use Rattle.model_reader.specs.declared.expr.Expr.TheVariants as expr
-use Rattle.event_relations.specs.Words.{BothCarry, kind_place}
-use Rattle.event_relations.proofs.WordTests.{of_word, is-Po, is-Id, is-Any, is-SameFile, is-SameBlock, is-SameDir, is-SameName, is-SameCall, is-SameTxn, is-Kinds}
+use Rattle.event_relations.specs.Words.{BothCarry}
+use Rattle.event_relations.specs.Lexicons.{as_expr}
+use Rattle.event_relations.proofs.WordTests.{of_word, is-Po, is-Id, is-Any, is-SameFile, is-SameBlock, is-SameDir, is-SameName, is-SameCall, is-SameTxn}
 use Rattle.event_relations.proofs.words.relates.Goals as goal
 
 less : (a b : ℕ) → (ltb a b ≡ true) ↔ (suc a < suc b)
@@ -18,41 +17,32 @@ same_suc : (a b : ℕ) → (eqb a b ≡ true) ↔ (suc a ≡ suc b)
 same_suc a b = (λ h. ap suc (eqb-true a b h), λ h. eq-eqb a b (omega arith))
 
 pub returns-in-Po : goal.returns-in-Po
-returns-in-Po c = of_word (suc c.args.a) (suc c.args.b) c.args.e.now c.args.f.now c.args.x.now expr.Po (ltb c.args.a c.args.b) c.in-Po.is (is-Po (suc c.args.a) (suc c.args.b) c.args.e.now c.args.f.now (ltb c.args.a c.args.b) (less c.args.a c.args.b))
+returns-in-Po c = of_word (suc c.args.a) (suc c.args.b) c.args.e.now c.args.f.now (as_expr c.args.word) expr.Po (ltb c.args.a c.args.b) (ap as_expr c.in-Po.is) (is-Po (suc c.args.a) (suc c.args.b) c.args.e.now c.args.f.now (ltb c.args.a c.args.b) (less c.args.a c.args.b))
 
 pub returns-in-Id : goal.returns-in-Id
-returns-in-Id c = of_word (suc c.args.a) (suc c.args.b) c.args.e.now c.args.f.now c.args.x.now expr.Id (eqb c.args.a c.args.b) c.in-Id.is (is-Id (suc c.args.a) (suc c.args.b) c.args.e.now c.args.f.now (eqb c.args.a c.args.b) (same_suc c.args.a c.args.b))
+returns-in-Id c = of_word (suc c.args.a) (suc c.args.b) c.args.e.now c.args.f.now (as_expr c.args.word) expr.Id (eqb c.args.a c.args.b) (ap as_expr c.in-Id.is) (is-Id (suc c.args.a) (suc c.args.b) c.args.e.now c.args.f.now (eqb c.args.a c.args.b) (same_suc c.args.a c.args.b))
 
 pub returns-in-Any : goal.returns-in-Any
-returns-in-Any c = of_word (suc c.args.a) (suc c.args.b) c.args.e.now c.args.f.now c.args.x.now expr.Any true c.in-Any.is (is-Any (suc c.args.a) (suc c.args.b) c.args.e.now c.args.f.now)
+returns-in-Any c = of_word (suc c.args.a) (suc c.args.b) c.args.e.now c.args.f.now (as_expr c.args.word) expr.Any true (ap as_expr c.in-Any.is) (is-Any (suc c.args.a) (suc c.args.b) c.args.e.now c.args.f.now)
 
 pub returns-in-SameFile : goal.returns-in-SameFile
-returns-in-SameFile c = of_word (suc c.args.a) (suc c.args.b) c.args.e.now c.args.f.now c.args.x.now expr.SameFile c.both_carry.result c.in-SameFile.is (is-SameFile (suc c.args.a) (suc c.args.b) c.args.e.now c.args.f.now c.both_carry.result c.both_carry.ensures)
+returns-in-SameFile c = of_word (suc c.args.a) (suc c.args.b) c.args.e.now c.args.f.now (as_expr c.args.word) expr.SameFile c.both_carry.result (ap as_expr c.in-SameFile.is) (is-SameFile (suc c.args.a) (suc c.args.b) c.args.e.now c.args.f.now c.both_carry.result c.both_carry.ensures)
 
 pub returns-in-SameDir : goal.returns-in-SameDir
-returns-in-SameDir c = of_word (suc c.args.a) (suc c.args.b) c.args.e.now c.args.f.now c.args.x.now expr.SameDir c.both_carry-in-SameDir.result c.in-SameDir.is (is-SameDir (suc c.args.a) (suc c.args.b) c.args.e.now c.args.f.now c.both_carry-in-SameDir.result c.both_carry-in-SameDir.ensures)
+returns-in-SameDir c = of_word (suc c.args.a) (suc c.args.b) c.args.e.now c.args.f.now (as_expr c.args.word) expr.SameDir c.both_carry-in-SameDir.result (ap as_expr c.in-SameDir.is) (is-SameDir (suc c.args.a) (suc c.args.b) c.args.e.now c.args.f.now c.both_carry-in-SameDir.result c.both_carry-in-SameDir.ensures)
 
 pub returns-in-SameName : goal.returns-in-SameName
-returns-in-SameName c = of_word (suc c.args.a) (suc c.args.b) c.args.e.now c.args.f.now c.args.x.now expr.SameName c.both_carry-in-SameName.result c.in-SameName.is (is-SameName (suc c.args.a) (suc c.args.b) c.args.e.now c.args.f.now c.both_carry-in-SameName.result c.both_carry-in-SameName.ensures)
+returns-in-SameName c = of_word (suc c.args.a) (suc c.args.b) c.args.e.now c.args.f.now (as_expr c.args.word) expr.SameName c.both_carry-in-SameName.result (ap as_expr c.in-SameName.is) (is-SameName (suc c.args.a) (suc c.args.b) c.args.e.now c.args.f.now c.both_carry-in-SameName.result c.both_carry-in-SameName.ensures)
 
 pub returns-in-SameCall : goal.returns-in-SameCall
-returns-in-SameCall c = of_word (suc c.args.a) (suc c.args.b) c.args.e.now c.args.f.now c.args.x.now expr.SameCall (eqb c.args.e.now.call c.args.f.now.call) c.in-SameCall.is (is-SameCall (suc c.args.a) (suc c.args.b) c.args.e.now c.args.f.now (eqb c.args.e.now.call c.args.f.now.call) (same c.args.e.now.call c.args.f.now.call))
+returns-in-SameCall c = of_word (suc c.args.a) (suc c.args.b) c.args.e.now c.args.f.now (as_expr c.args.word) expr.SameCall (eqb c.args.e.now.call c.args.f.now.call) (ap as_expr c.in-SameCall.is) (is-SameCall (suc c.args.a) (suc c.args.b) c.args.e.now c.args.f.now (eqb c.args.e.now.call c.args.f.now.call) (same c.args.e.now.call c.args.f.now.call))
 
 pub returns-in-SameTxn : goal.returns-in-SameTxn
-returns-in-SameTxn c = of_word (suc c.args.a) (suc c.args.b) c.args.e.now c.args.f.now c.args.x.now expr.SameTxn (eqb c.args.e.now.txn c.args.f.now.txn) c.in-SameTxn.is (is-SameTxn (suc c.args.a) (suc c.args.b) c.args.e.now c.args.f.now (eqb c.args.e.now.txn c.args.f.now.txn) (same c.args.e.now.txn c.args.f.now.txn))
+returns-in-SameTxn c = of_word (suc c.args.a) (suc c.args.b) c.args.e.now c.args.f.now (as_expr c.args.word) expr.SameTxn (eqb c.args.e.now.txn c.args.f.now.txn) (ap as_expr c.in-SameTxn.is) (is-SameTxn (suc c.args.a) (suc c.args.b) c.args.e.now c.args.f.now (eqb c.args.e.now.txn c.args.f.now.txn) (same c.args.e.now.txn c.args.f.now.txn))
 
 pub returns-else-not-both_carry : goal.returns-else-not-both_carry
 returns-else-not-both_carry c =
     let file : BothCarry c.args.e.now.file c.args.f.now.file = c.both_carry-in-SameBlock.ensures.0 c.if-not-both_carry.false in
-    of_word (suc c.args.a) (suc c.args.b) c.args.e.now c.args.f.now c.args.x.now expr.SameBlock c.both_carry-in-SameBlock-2.result c.in-SameBlock.is
+    of_word (suc c.args.a) (suc c.args.b) c.args.e.now c.args.f.now (as_expr c.args.word) expr.SameBlock c.both_carry-in-SameBlock-2.result (ap as_expr c.in-SameBlock.is)
     (is-SameBlock (suc c.args.a) (suc c.args.b) c.args.e.now c.args.f.now c.both_carry-in-SameBlock-2.result
     (λ t. (file, c.both_carry-in-SameBlock-2.ensures.0 t), λ s. c.both_carry-in-SameBlock-2.ensures.1 s.1))
-
-pub returns-else-a-b : goal.returns-else-a-b
-returns-else-a-b c =
-    let here : c.args.a ≡ c.args.b = c.if-a-b.false in
-    let place : bit_and (c.in-Kinds.bits / 2 ^ c.place_of.result) 1 ≡ bit_at c.in-Kinds.bits (kind_place c.args.e.now.kind) =
-    shr_and_one c.in-Kinds.bits c.place_of.result ∙ ap (bit_at c.in-Kinds.bits) c.place_of.ensures.place in
-    of_word (suc c.args.a) (suc c.args.b) c.args.e.now c.args.f.now c.args.x.now (expr.Kinds c.in-Kinds.bits) _ c.in-Kinds.is
-    (is-Kinds (suc c.args.a) (suc c.args.b) c.args.e.now c.args.f.now c.in-Kinds.bits _
-    (λ t. (ap suc here, sym place ∙ eqb-true _ _ t), λ s. eq-eqb _ _ (place ∙ s.1)))
