@@ -1,5 +1,5 @@
 -- What a question to a solver is answered with, and what may be learned on the way.
-use Rattle.std.specs.Prelude.{◌≡◌, ℕ, ◌++◌, List, [], length}
+use Rattle.std.specs.Prelude.{◌≡◌, ℕ, ◌<◌, ◌++◌, List, [], length}
 use Rattle.std.specs.List.{Contains}
 use Rattle.clause_store.specs.declared.Lit.{Lit}
 use Rattle.clause_store.specs.Propagation.{Follows, HasAll, negations}
@@ -23,12 +23,12 @@ pub record AreLessons (before more : List (List Lit)) : Type 0 where
 
 -- what a verdict says. Satisfied: the values, one for each variable, make all given clauses and all assumptions true.
 -- Refuted: the part is of assumptions, and the clause of its negations follows by unit propagation from the given clauses
--- and the learned ones. Spent: so many clauses are learned, and the clause of the negations of all assumptions doesn't
--- follow so
+-- and the learned ones. Spent: so many clauses are learned, which are below the greatest limit, and the clause of the
+-- negations of all assumptions doesn't follow so
 abbrev pub IsVerdict : Solving → List Lit → ℕ → Verdict → Type 0
 IsVerdict s assumptions limit (Satisfied values) =
     (length values ≡ s.vars) × MakesAllTrue values s.clauses × HasAll (is_true values) assumptions
 IsVerdict s assumptions limit (Refuted part) =
     ((a : Lit) → Contains part a → Contains assumptions a) × Follows (s.clauses ++ s.learned) (negations part)
 IsVerdict s assumptions limit Spent =
-    (length s.learned ≡ limit) × (Follows (s.clauses ++ s.learned) (negations assumptions) → ⊥)
+    (length s.learned ≡ limit) × (Follows (s.clauses ++ s.learned) (negations assumptions) → ⊥) × (limit < 18446744073709551615)

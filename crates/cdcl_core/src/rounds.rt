@@ -1,6 +1,6 @@
 //! The search itself: descents, lessons and restarts until there is an answer.
 
-ghost use Rattle.std.specs.Prelude.{ℕ, ◌≡◌, ◌≤◌, ◌<◌, ◌++◌, length, IfOk, List, Bool, true};
+ghost use Rattle.std.specs.Prelude.{ℕ, ◌≡◌, ◌≤◌, ◌<◌, ◌⊎◌, ◌++◌, length, IfOk, List, Bool, true, false};
 ghost use Rattle.std.specs.List.{All, Contains};
 ghost use Rattle.clause_store.specs.declared.Lit.{Lit};
 ghost use Rattle.clause_store.specs.Clauses.{InVars, negated};
@@ -137,6 +137,22 @@ pub fn begin(
     }
 }
 
+// Whether as many clauses are learned as is allowed. The greatest limit allows all that memory holds.
+fn is_spent(learned: usize, limit: u64) -> bool
+    ensures spent { result ≡ true → (limit ≤ learned) × (limit < 18446744073709551615) }
+    ensures allowed { result ≡ false → (learned < limit) ⊎ (limit ≡ 18446744073709551615) }
+{
+    limit < u64::MAX && learned as u64 >= limit
+}
+
+// How many numbers there are. No list is longer than the greatest limit.
+fn count(numbers: &[usize]) -> usize
+    ensures count { result ≡ length numbers.now }
+    ensures fits { length numbers.now ≤ 18446744073709551615 }
+{
+    numbers.len()
+}
+
 /// Searches from level 0 on.
 pub fn find_answer(
     alloc: Global,
@@ -168,10 +184,11 @@ pub fn find_answer(
                 if engine.trail.level() <= footing.level {
                     return refuted(alloc, engine, assumptions, &footing, id);
                 }
-                if engine.learned.len() as u64 >= limit {
+                if is_spent(engine.learned.len(), limit) {
                     return Ok(Verdict::Spent);
                 }
                 study(engine, assumptions, &mut footing, id)?;
+                let _count = count(engine.learned.as_slice());
                 tell(brancher, engine.scratch.lits());
                 breathe(engine, assumptions, &mut footing, &mut pace);
             }
