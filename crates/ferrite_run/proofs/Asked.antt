@@ -1,22 +1,20 @@
 -- What the steps up to a question yield, and how the work goes on from there.
-use Rattle.std.proofs.Common.{◌≡◌, ℕ, ◌≤◌, List, [], Option, refl, arith}
+use Rattle.std.proofs.Common.{ℕ, ◌≤◌, List, [], Option, arith}
 use Rattle.fer_outside.specs.Held.{Held}
 use Rattle.fer_outside.specs.Causes.{Rose}
 use Rattle.litmus_syntax.specs.Test.{Test}
-use Rattle.litmus_reader.specs.LitmusText.{IsLitmusText}
+use Rattle.fer_events.specs.declared.event.Crash.{Crash}
 use Rattle.model_reader.specs.declared.model.Model.{Model}
-use Rattle.model_reader.specs.ModelText.{IsModelText}
 use Rattle.command_line.specs.declared.commands.ModelName.{ModelName}
 use Rattle.command_line.specs.declared.commands.ModelName.TheVariants.{Shipped, File}
-use Rattle.report.specs.declared.outcome.Role.TheVariants.{LitmusFile, ModelFile}
+use Rattle.report.specs.declared.outcome.Role.TheVariants.{LitmusFile, ModelFile, CrashFile}
 use Rattle.report.specs.Answers.{Answer}
 use Rattle.ferrite_run.specs.declared.question.Question.{Question}
-use Rattle.ferrite_run.specs.Steps.{Step}
 use Rattle.ferrite_run.specs.Steps.Step.{ends, goes_on}
 use Rattle.ferrite_run.specs.Fetching.{IsUnfetched, IsFetched}
-use Rattle.ferrite_run.specs.Reading.{IsNoLitmus, IsNoModel, OnLitmus, OnModel}
+use Rattle.ferrite_run.specs.Reading.{IsNoLitmus, IsNoModel, IsNoCrash, OnLitmus, OnModel, OnCrash}
 use Rattle.ferrite_run.specs.Asking.{IsUnresolved, OnQuestion}
-use Rattle.ferrite_run.specs.Yields.{IsLitmusOf, IsModelOf, IsQuestionOf}
+use Rattle.ferrite_run.specs.Yields.{IsLitmusOf, IsModelOf, IsCrashOf, IsQuestionOf}
 use Rattle.ferrite_run.proofs.Calm.{litmus_more, model_more, question_more}
 
 -- a count that rose from some time on rose from an earlier time on
@@ -44,6 +42,12 @@ pub model_unread :
     → OnModel told rose (File name) Next a
 model_unread told rose name bytes Next a fetched h = goes_on bytes fetched (ends h)
 
+-- the crash file isn't read
+pub crash_unread :
+    (told : Option Held) (rose : List ℕ → Type 0) (name bytes : List ℕ) (Next : Crash → Answer → Type 0) (a : Answer) → IsFetched told CrashFile name bytes → IsNoCrash bytes a
+    → OnCrash told rose name Next a
+crash_unread told rose name bytes Next a fetched h = goes_on bytes fetched (ends h)
+
 -- the work goes on from a test
 pub on_litmus :
     (told : Option Held) (rose : List ℕ → Type 0) (name : List ℕ) (Next : Test → Answer → Type 0) (t : Test) (a : Answer) → IsLitmusOf told name t → Next t a → OnLitmus told rose name Next a
@@ -54,6 +58,12 @@ pub on_model :
     (told : Option Held) (rose : List ℕ → Type 0) (name : ModelName) (Next : Model → Answer → Type 0) (m : Model) (a : Answer) → IsModelOf told name m → Next m a → OnModel told rose name Next a
 on_model told rose (Shipped shipped) Next m a read next = goes_on m read next
 on_model told rose (File name) Next m a (bytes, fetched, read) next = goes_on bytes fetched (goes_on m read next)
+
+-- and from a crash
+pub on_crash :
+    (told : Option Held) (rose : List ℕ → Type 0) (name : List ℕ) (Next : Crash → Answer → Type 0) (crash : Crash) (a : Answer) → IsCrashOf told name crash → Next crash a
+    → OnCrash told rose name Next a
+on_crash told rose name Next crash a (bytes, fetched, read) next = goes_on bytes fetched (goes_on crash read next)
 
 -- the work ends before the question is asked
 pub no_litmus :

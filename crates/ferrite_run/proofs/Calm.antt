@@ -1,33 +1,36 @@
 -- Where no count of faults rose for a file that the command names, its answer is one without faults; and where more counts
 -- rose, what was an answer still is one.
-use Rattle.std.proofs.Common.{◌≡◌, ℕ, List, [], Option, Some, None, inl, inr, refl}
+use Rattle.std.proofs.Common.{ℕ, List, [], Option, Some, None, inl, inr, refl}
 use Rattle.fer_outside.specs.Held.{Held}
 use Rattle.fer_outside.specs.Causes.{IsMissing}
 use Rattle.litmus_syntax.specs.Test.{Test}
 use Rattle.litmus_reader.specs.LitmusText.{IsLitmusText}
+use Rattle.fer_events.specs.declared.event.Crash.{Crash}
 use Rattle.fer_events.specs.Pairs.{PairList}
 use Rattle.fer_events.specs.Tables.{Trace}
 use Rattle.call_events.specs.Resolved.{HasEvents}
 use Rattle.model_reader.specs.declared.model.Model.{Model}
 use Rattle.model_reader.specs.ModelText.{IsModelText}
 use Rattle.model_library.specs.ShippedModels.{shipped_text}
+use Rattle.witness_replay.specs.CrashFiles.{IsCrashText}
 use Rattle.command_line.specs.declared.commands.ModelName.{ModelName}
 use Rattle.command_line.specs.declared.commands.ModelName.TheVariants.{Shipped, File}
 use Rattle.command_line.specs.declared.commands.Command.{Command}
 use Rattle.command_line.specs.declared.commands.Command.TheVariants.{Check, Repair, Verify, Replay, Events, Show, Models, Work, Explain, Hint, Trim, Flush}
 use Rattle.report.specs.declared.outcome.Role.{Role}
-use Rattle.report.specs.declared.outcome.Role.TheVariants.{LitmusFile, ModelFile}
+use Rattle.report.specs.declared.outcome.Role.TheVariants.{LitmusFile, ModelFile, CrashFile}
 use Rattle.report.specs.Answers.{Answer}
 use Rattle.ferrite_run.specs.declared.question.Question.{Question}
 use Rattle.ferrite_run.specs.Steps.Step.{ends, goes_on}
 use Rattle.ferrite_run.specs.Fetching.{Fetch, IsUnfetched, IsFetched}
 use Rattle.ferrite_run.specs.Fetching.IsUnfetched.{missing, unreadable, long}
-use Rattle.ferrite_run.specs.Reading.{IsNoLitmus, IsNoModel, ReadLitmus, ReadModel, OnLitmus, OnModel}
+use Rattle.ferrite_run.specs.Reading.{IsNoLitmus, IsNoModel, IsNoCrash, ReadLitmus, ReadModel, ReadCrash, OnLitmus, OnModel, OnCrash}
 use Rattle.ferrite_run.specs.Asking.{IsUnresolved, AreKept, Resolve, Keep, OnQuestion}
-use Rattle.ferrite_run.specs.Answers.{IsReply, IsAnswer, IsUsage, Asks, IsFileOf, IsModelFile}
+use Rattle.ferrite_run.specs.Answers.{IsReply, IsAnswer, Asks, IsFileOf, IsModelFile}
 use Rattle.ferrite_run.specs.Check.{IsChecked}
 use Rattle.ferrite_run.specs.Events.{IsTable}
 use Rattle.ferrite_run.specs.Show.{IsShown}
+use Rattle.ferrite_run.specs.Replay.{IsReplayed}
 use Rattle.ferrite_run.proofs.Rows.{step_more}
 
 missing_more : (told : Option Held) (name : List ℕ) (rose more : Type 0) → (rose → more) → IsMissing told name rose → IsMissing told name more
@@ -54,6 +57,10 @@ read_model_more : (bytes : List ℕ) (Next Then : Model → Answer → Type 0) (
 read_model_more bytes Next Then a next =
     step_more Model (IsNoModel bytes) (IsNoModel bytes) (IsModelText bytes) (IsModelText bytes) Next Then a (λ h. h) (λ x h. h) next
 
+read_crash_more : (bytes : List ℕ) (Next Then : Crash → Answer → Type 0) (a : Answer) → ((crash : Crash) → Next crash a → Then crash a) → ReadCrash bytes Next a → ReadCrash bytes Then a
+read_crash_more bytes Next Then a next =
+    step_more Crash (IsNoCrash bytes) (IsNoCrash bytes) (IsCrashText bytes) (IsCrashText bytes) Next Then a (λ h. h) (λ x h. h) next
+
 pub litmus_more :
     (told : Option Held) (rose more : List ℕ → Type 0) (name : List ℕ) (Next Then : Test → Answer → Type 0) (a : Answer) → (rose name → more name)
     → ((t : Test) → Next t a → Then t a) → OnLitmus told rose name Next a → OnLitmus told more name Then a
@@ -66,6 +73,12 @@ pub model_more :
 model_more told rose more (Shipped shipped) Next Then a from next = read_model_more (shipped_text shipped) Next Then a next
 model_more told rose more (File name) Next Then a from next =
     fetch_more told rose more ModelFile name (λ bytes. ReadModel bytes Next) (λ bytes. ReadModel bytes Then) a (from name refl) (λ bytes. read_model_more bytes Next Then a next)
+
+pub crash_more :
+    (told : Option Held) (rose more : List ℕ → Type 0) (name : List ℕ) (Next Then : Crash → Answer → Type 0) (a : Answer) → (rose name → more name)
+    → ((crash : Crash) → Next crash a → Then crash a) → OnCrash told rose name Next a → OnCrash told more name Then a
+crash_more told rose more name Next Then a from next =
+    fetch_more told rose more CrashFile name (λ bytes. ReadCrash bytes Next) (λ bytes. ReadCrash bytes Then) a from (λ bytes. read_crash_more bytes Next Then a next)
 
 pub resolve_more : (litmus : Test) (Next Then : Trace → Answer → Type 0) (a : Answer) → ((t : Trace) → Next t a → Then t a) → Resolve litmus [] Next a → Resolve litmus [] Then a
 resolve_more litmus Next Then a next =
@@ -88,13 +101,15 @@ pub reply_more :
     → IsReply told rose command a → IsReply told more command a
 reply_more told rose more (Check litmus model search) a from h =
     question_more told rose more litmus model IsChecked IsChecked a (from litmus (inl refl)) (λ name is. from name (inr is)) (λ q h. h) h
+reply_more told rose more (Replay litmus model crash) a from h =
+    question_more told rose more litmus model (λ q. OnCrash told rose crash (IsReplayed q)) (λ q. OnCrash told more crash (IsReplayed q)) a (from litmus (inl refl)) (λ name is. from name (inr (inl is)))
+    (λ q. crash_more told rose more crash (IsReplayed q) (IsReplayed q) a (from crash (inr (inr refl))) (λ c h. h)) h
 reply_more told rose more (Events litmus model) a from h =
     question_more told rose more litmus model IsTable IsTable a (from litmus (inl refl)) (λ name is. from name (inr is)) (λ q h. h) h
 reply_more told rose more (Show litmus) a from h = litmus_more told rose more litmus IsShown IsShown a (from litmus refl) (λ t h. h) h
 reply_more told rose more Models a from h = h
 reply_more told rose more (Repair litmus model with search) a from h = absurd h
 reply_more told rose more (Verify litmus model log) a from h = absurd h
-reply_more told rose more (Replay litmus model crash) a from h = absurd h
 reply_more told rose more (Work seed calls branch) a from h = absurd h
 reply_more told rose more (Explain litmus model branch) a from h = absurd h
 reply_more told rose more (Hint litmus model log hinted) a from h = absurd h
@@ -102,7 +117,8 @@ reply_more told rose more (Trim litmus model log trimmed) a from h = absurd h
 reply_more told rose more (Flush litmus model seed width) a from h = absurd h
 
 pub answer_calm :
-    (told : Option Held) (rose : List ℕ → Type 0) (words : List (List ℕ)) (a : Answer)
-    → ((command : Command) (name : List ℕ) → Asks words command → IsFileOf command name → rose name → ⊥) → IsAnswer told rose words a → IsAnswer told (λ _. ⊥) words a
-answer_calm told rose words a calm (ends h) = ends h
-answer_calm told rose words a calm (goes_on command asks h) = goes_on command asks (reply_more told rose (λ _. ⊥) command a (λ name is. calm command name asks is) h)
+    (told : Option Held) (rose : List ℕ → Type 0) (words choices : List (List ℕ)) (a : Answer)
+    → ((command : Command) (name : List ℕ) → Asks words choices command → IsFileOf command name → rose name → ⊥)
+    → IsAnswer told rose words choices a → IsAnswer told (λ _. ⊥) words choices a
+answer_calm told rose words choices a calm (ends h) = ends h
+answer_calm told rose words choices a calm (goes_on command asks h) = goes_on command asks (reply_more told rose (λ _. ⊥) command a (λ name is. calm command name asks is) h)

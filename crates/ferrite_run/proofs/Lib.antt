@@ -1,6 +1,4 @@
 pub mod Growth
-pub mod Along
-pub mod Crashes
 pub mod PairsOfAll
 pub mod Ready
 pub mod Rows
@@ -8,7 +6,7 @@ pub mod Single
 pub mod OneAnswer
 pub mod Calm
 pub mod Asked
-pub mod Verdicts
 pub mod SequentialText
 pub mod Sequential
 pub mod Finding
+pub mod Verdicts

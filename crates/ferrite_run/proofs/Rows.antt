@@ -1,5 +1,5 @@
 -- Steps: what follows may be weakened, and one answer follows from one yield.
-use Rattle.std.proofs.Common.{◌≡◌, sym, ◌∙◌, subst}
+use Rattle.std.proofs.Common.{◌≡◌, subst}
 use Rattle.report.specs.Answers.{Answer}
 use Rattle.ferrite_run.specs.Agreeing.{Agree}
 use Rattle.ferrite_run.specs.Agreeing.Agree.{same}

@@ -1,5 +1,5 @@
 -- The file of the sequential model is read as the model whose one kept expression is program order.
-use Rattle.std.proofs.Common.{◌≡◌, inl, inr, ℕ, zero, suc, true, false, List, [], ◌∷◌, ◌++◌, Option, Some, None, codes, refl, sym, subst, Contains, arith}
+use Rattle.std.proofs.Common.{◌≡◌, inl, inr, zero, suc, true, false, List, [], ◌∷◌, Some, None, codes, refl, sym, subst, Contains, arith}
 use Rattle.text_scan.specs.declared.scanning.Token.{Token}
 use Rattle.text_scan.specs.declared.scanning.TokenKind.TheVariants as token
 use Rattle.lexeme_reader.specs.declared.reading.Lexeme.{Lexeme}

@@ -1,8 +1,9 @@
 -- Each step of the work ends in one way, or it yields one thing.
-use Rattle.std.proofs.Common.{◌≡◌, ◌<◌, ℕ, Bool, true, false, List, [], length, filter, Option, Some, None, IsSomeAnd, refl, sym, ◌∙◌, ap, subst, arith}
+use Rattle.std.proofs.Common.{◌≡◌, ◌<◌, ℕ, Bool, true, false, List, length, filter, Option, Some, None, IsSomeAnd, refl, sym, ◌∙◌, ap, subst, arith}
 use Rattle.std.proofs.lemmas.List.Elements.{filter_agree}
 use Rattle.fer_outside.specs.Held.{Held, held_under}
 use Rattle.litmus_syntax.specs.Test.{Test}
+use Rattle.litmus_syntax.specs.declared.pred.Pred.{Pred}
 use Rattle.litmus_syntax.specs.declared.site.Site.{Site}
 use Rattle.litmus_reader.specs.declared.fault.LitmusKind.{LitmusKind}
 use Rattle.litmus_reader.specs.Kinds as litmus_kind
@@ -12,17 +13,21 @@ use Rattle.model_reader.specs.declared.fault.ModelKind.{ModelKind}
 use Rattle.model_reader.specs.Kinds as model_kind
 use Rattle.model_reader.specs.ModelText.{IsModelText, IsModelRefused}
 use Rattle.fer_events.specs.declared.event.Event.{Event}
+use Rattle.fer_events.specs.declared.event.Crash.{Crash}
 use Rattle.fer_events.specs.Pairs.{PairList, has_pair, square}
 use Rattle.fer_events.specs.Tables.{Trace}
 use Rattle.call_events.specs.declared.call_kind.CallKind.{CallKind}
 use Rattle.call_events.specs.Refusals as call_kind
 use Rattle.call_events.specs.Resolved.{HasEvents, IsCallRefused}
+use Rattle.witness_replay.specs.declared.judgement.CrashJudgement.{CrashJudgement}
+use Rattle.witness_replay.specs.CrashFiles.{IsCrashText}
+use Rattle.witness_replay.specs.Judging.{IsJudged}
 use Rattle.fer_events.proofs.PairLaws.{has_self, has_only}
 use Rattle.report.specs.declared.outcome.Role.{Role}
 use Rattle.report.specs.Answers.{Answer, LitmusRefused, ModelRefused}
 use Rattle.ferrite_run.specs.Fetching.{IsUnfetched, IsFetched, most_bytes}
 use Rattle.ferrite_run.specs.Fetching.IsUnfetched.{missing, unreadable, long}
-use Rattle.ferrite_run.specs.Reading.{IsNoLitmus, IsNoModel}
+use Rattle.ferrite_run.specs.Reading.{IsNoLitmus, IsNoModel, IsNoCrash}
 use Rattle.ferrite_run.specs.Asking.{IsUnresolved, AreKept}
 use Rattle.ferrite_run.proofs.Rows.{IsOneStep}
 
@@ -70,6 +75,9 @@ pub record Laws : Type 0 where
   pub one_trace : (litmus : Test) (sites : List Site) (t u : Trace) → HasEvents litmus sites t → HasEvents litmus sites u → t ≡ u
   pub one_call : (litmus : Test) (sites : List Site) (i j : ℕ) (k m : CallKind) → IsCallRefused litmus sites i k → IsCallRefused litmus sites j m → (i ≡ j) × (k ≡ m)
   pub events_or_refused : (litmus : Test) (sites : List Site) (t : Trace) (i : ℕ) (k : CallKind) → HasEvents litmus sites t → IsCallRefused litmus sites i k → ⊥
+  pub one_crash : (bytes : List ℕ) (a b : Crash) → IsCrashText bytes a → IsCrashText bytes b → a ≡ b
+  pub one_judgement : (t : Trace) (kept : List (ℕ × ℕ)) (pred : Pred) (want : Bool) (crash : Crash) (x y : CrashJudgement)
+      → IsJudged t kept pred want crash x → IsJudged t kept pred want crash y → x ≡ y
 
 one_refusal : (make : ℕ → ℕ → Answer) (i j k m : ℕ) → i ≡ j → k ≡ m → make i k ≡ make j m
 one_refusal make i j k m e f = ap (λ (n : ℕ). make n k) e ∙ ap (make j) f
@@ -90,6 +98,13 @@ one_model_step laws bytes = record {
       e ∙ one_refusal ModelRefused i j (model_kind.kind_number k) (model_kind.kind_number m) one.0 (ap model_kind.kind_number one.1) ∙ sym f;
   one_yield = laws.one_model bytes;
   apart = λ a x (i, k, h, e) is. laws.model_or_refused bytes x i k is h;
+}
+
+pub one_crash_step : Laws → (bytes : List ℕ) → IsOneStep Crash (IsNoCrash bytes) (IsCrashText bytes)
+one_crash_step laws bytes = record {
+  one_end = λ a b (none, e) (never, f). e ∙ sym f;
+  one_yield = laws.one_crash bytes;
+  apart = λ a crash (none, e) is. none crash is;
 }
 
 pub one_resolving : Laws → (litmus : Test) (sites : List Site) → IsOneStep Trace (IsUnresolved litmus sites) (HasEvents litmus sites)

@@ -1,30 +1,32 @@
--- What `check` answers where every pair of events is kept.
-use Rattle.std.proofs.Common.{◌≡◌, ℕ, ◌≤◌, List, length, refl, subst, sym}
+-- From the answer of a search to what `check` answers.
+use Rattle.std.proofs.Common.{◌≡◌, Bool, drop, sym, subst}
+use Rattle.std.specs.List.Sorted.{IsStrictlyIncreasing}
+use Rattle.litmus_syntax.specs.declared.pred.Pred.{Pred}
 use Rattle.fer_events.specs.declared.event.Crash.{Crash}
-use Rattle.fer_events.specs.Orders.{numbers, all_pairs}
 use Rattle.fer_events.specs.Witness.{IsWitness}
 use Rattle.report.specs.Answers.{Answer, Allowed, Forbidden}
 use Rattle.ferrite_run.specs.declared.question.Question.{Question}
 use Rattle.ferrite_run.specs.Check.{IsChecked, Shows}
 use Rattle.ferrite_run.specs.Check.IsChecked.{allowed, forbidden}
-use Rattle.ferrite_run.specs.Cut.{AnswersAt}
-use Rattle.ferrite_run.proofs.Crashes.{OneOrder, cut_of_crash, crash_of_cut, rest_ascends}
 
--- no cut answers
-pub told_forbidden :
-    OneOrder → (q : Question) → q.pairs.pairs ≡ all_pairs (length q.events.events)
-    → ((k : ℕ) → k ≤ length q.events.events → AnswersAt q.events q.litmus.pred q.litmus.want k → ⊥) → (a : Answer) → a ≡ Forbidden → IsChecked q a
-told_forbidden one q all none a e =
-    forbidden (λ (crash, shows).
-    let P : List (ℕ × ℕ) → Type 0 = λ kept. IsWitness q.events kept q.litmus.pred q.litmus.want crash in
-    let here = subst P all shows in
-    none crash.cut here.crashes.within (cut_of_crash one q.events q.litmus.pred q.litmus.want crash here)) e
+module _ (q : Question) (pred : Pred) (want : Bool) (asked : pred ≡ q.litmus.pred) (wanted : want ≡ q.litmus.want) where
+  -- what answers the one question answers the other
+  shows : (crash : Crash) → IsWitness q.events q.pairs.pairs pred want crash → Shows q crash
+  shows crash is =
+      let P : Pred → Type 0 = λ p. IsWitness q.events q.pairs.pairs p want crash in
+      let Q : Bool → Type 0 = λ w. IsWitness q.events q.pairs.pairs q.litmus.pred w crash in
+      subst Q wanted (subst P asked is)
 
--- a cut answers
-pub told_allowed :
-    OneOrder → (q : Question) (cut : ℕ) → q.pairs.pairs ≡ all_pairs (length q.events.events) → cut ≤ length q.events.events
-    → AnswersAt q.events q.litmus.pred q.litmus.want cut → (a : Answer) → a ≡ Allowed (record { order = numbers (length q.events.events); cut = cut }) → IsChecked q a
-told_allowed one q cut all within answers a e =
-    let crash : Crash = record { order = numbers (length q.events.events); cut = cut } in
-    let P : List (ℕ × ℕ) → Type 0 = λ kept. IsWitness q.events kept q.litmus.pred q.litmus.want crash in
-    allowed crash (subst P (sym all) (crash_of_cut one q.events q.litmus.pred q.litmus.want cut within answers)) (rest_ascends (length q.events.events) cut within) e
+  back : (crash : Crash) → Shows q crash → IsWitness q.events q.pairs.pairs pred want crash
+  back crash is =
+      let P : Pred → Type 0 = λ p. IsWitness q.events q.pairs.pairs p want crash in
+      let Q : Bool → Type 0 = λ w. IsWitness q.events q.pairs.pairs q.litmus.pred w crash in
+      subst P (sym asked) (subst Q (sym wanted) is)
+
+  pub told_allowed :
+      (crash : Crash) → IsWitness q.events q.pairs.pairs pred want crash × IsStrictlyIncreasing (drop crash.cut crash.order) → (a : Answer) → a ≡ Allowed crash → IsChecked q a
+  told_allowed crash (is, ascends) a e = allowed crash (shows crash is) ascends e
+
+  pub told_forbidden :
+      ((crash : Crash) → IsWitness q.events q.pairs.pairs pred want crash → ⊥) → (a : Answer) → a ≡ Forbidden → IsChecked q a
+  told_forbidden none a e = forbidden (λ (crash, is). none crash (back crash is)) e

@@ -1,8 +1,7 @@
 -- What `check` answers.
-use Rattle.std.specs.Prelude.{◌≡◌, ◌<◌, ℕ, Bool, List, drop, AllPairs}
-use Rattle.litmus_syntax.specs.declared.pred.Pred.{Pred}
+use Rattle.std.specs.Prelude.{◌≡◌, drop}
+use Rattle.std.specs.List.Sorted.{IsStrictlyIncreasing}
 use Rattle.fer_events.specs.declared.event.Crash.{Crash}
-use Rattle.fer_events.specs.Tables.{Trace}
 use Rattle.fer_events.specs.Witness.{IsWitness}
 use Rattle.report.specs.Answers.{Answer, Allowed, Forbidden}
 use Rattle.ferrite_run.specs.declared.question.Question.{Question}
@@ -17,7 +16,7 @@ IsAllowed q = (crash : Crash) × Shows q crash
 
 -- the events that the crash kept from the disk stand in program order
 abbrev pub RestAscends : Crash → Type 0
-RestAscends crash = AllPairs (λ a b. a < b) (drop crash.cut crash.order)
+RestAscends crash = IsStrictlyIncreasing (drop crash.cut crash.order)
 
 -- a crash answers the question, and it is shown; or none does
 pub data IsChecked (q : Question) (answer : Answer) : Type 0 where

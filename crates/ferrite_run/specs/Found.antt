@@ -1,10 +1,15 @@
 -- Private: what is answered where a command was found in the words, or none.
-use Rattle.std.specs.Prelude.{◌≡◌, ◌⊎◌, ℕ, List, Option, Some, None}
+use Rattle.std.specs.Prelude.{◌≡◌, ◌⊎◌, ℕ, List, Option, Some, None, MatchOption}
 use Rattle.fer_outside.specs.Held.{Held}
 use Rattle.command_line.specs.declared.commands.Command.{Command}
+use Rattle.command_line.specs.Commands.{IsCommandLine}
 use Rattle.report.specs.Answers.{Answer, Usage}
 use Rattle.ferrite_run.specs.Built.{IsBuilt}
 use Rattle.ferrite_run.specs.Answers.{IsReply}
+
+-- the words are this command where `--branch` may name these choices, or none
+abbrev pub IsFound : List (List ℕ) → List (List ℕ) → Option Command → Type 0
+IsFound words choices found = MatchOption found ((c : Command) → IsCommandLine words choices c → ⊥) (λ c. IsCommandLine words choices c)
 
 abbrev pub IsFoundReply : Option Held → (List ℕ → Type 0) → Option Command → Answer → Type 0
 IsFoundReply told rose None answer = answer ≡ Usage

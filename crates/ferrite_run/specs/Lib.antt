@@ -5,11 +5,12 @@ pub mod Asking
 pub mod Check
 pub mod Events
 pub mod Show
+pub mod Replay
 pub mod Built
 pub mod Answers
 pub mod Statuses
 pub mod Saying
 pub mod Yields
 pub mod Agreeing
-pub mod Cut
+pub mod Choices
 pub mod Found

@@ -1,19 +1,21 @@
--- The steps in which the litmus file and the model are fetched and read.
+-- The steps in which the litmus file, the model and the crash file are fetched and read.
 use Rattle.std.specs.Prelude.{◌≡◌, ℕ, List, Option}
 use Rattle.fer_outside.specs.Held.{Held}
 use Rattle.litmus_syntax.specs.Test.{Test}
 use Rattle.litmus_reader.specs.declared.fault.LitmusKind.{LitmusKind}
 use Rattle.litmus_reader.specs.Kinds as litmus_kind
 use Rattle.litmus_reader.specs.LitmusText.{IsLitmusText, IsLitmusRefused}
+use Rattle.fer_events.specs.declared.event.Crash.{Crash}
 use Rattle.model_reader.specs.declared.model.Model.{Model}
 use Rattle.model_reader.specs.declared.fault.ModelKind.{ModelKind}
 use Rattle.model_reader.specs.Kinds as model_kind
 use Rattle.model_reader.specs.ModelText.{IsModelText, IsModelRefused}
 use Rattle.model_library.specs.ShippedModels.{shipped_text}
+use Rattle.witness_replay.specs.CrashFiles.{IsCrashText}
 use Rattle.command_line.specs.declared.commands.ModelName.{ModelName}
 use Rattle.command_line.specs.declared.commands.ModelName.TheVariants.{Shipped, File}
-use Rattle.report.specs.declared.outcome.Role.TheVariants.{LitmusFile, ModelFile}
-use Rattle.report.specs.Answers.{Answer, LitmusRefused, ModelRefused}
+use Rattle.report.specs.declared.outcome.Role.TheVariants.{LitmusFile, ModelFile, CrashFile}
+use Rattle.report.specs.Answers.{Answer, LitmusRefused, ModelRefused, CrashUnread}
 use Rattle.ferrite_run.specs.Steps.{Step}
 use Rattle.ferrite_run.specs.Fetching.{Fetch}
 
@@ -41,3 +43,15 @@ OnLitmus told rose name Next answer = Fetch told rose LitmusFile name (λ bytes.
 abbrev pub OnModel : Option Held → (List ℕ → Type 0) → ModelName → (Model → Answer → Type 0) → Answer → Type 0
 OnModel told rose (Shipped shipped) Next answer = ReadModel (shipped_text shipped) Next answer
 OnModel told rose (File name) Next answer = Fetch told rose ModelFile name (λ bytes. ReadModel bytes Next) answer
+
+-- the answer to bytes that are no crash file
+abbrev pub IsNoCrash : List ℕ → Answer → Type 0
+IsNoCrash bytes answer = ((crash : Crash) → IsCrashText bytes crash → ⊥) × (answer ≡ CrashUnread)
+
+-- bytes are read as a crash
+abbrev pub ReadCrash : List ℕ → (Crash → Answer → Type 0) → Answer → Type 0
+ReadCrash bytes Next answer = Step Crash (IsNoCrash bytes) (IsCrashText bytes) Next answer
+
+-- the crash file of this name is fetched, then read
+abbrev pub OnCrash : Option Held → (List ℕ → Type 0) → List ℕ → (Crash → Answer → Type 0) → Answer → Type 0
+OnCrash told rose name Next answer = Fetch told rose CrashFile name (λ bytes. ReadCrash bytes Next) answer

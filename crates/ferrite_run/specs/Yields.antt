@@ -1,15 +1,17 @@
--- What the steps before a question yield together.
+-- What the steps before a question yield together, and those in which a crash is read.
 use Rattle.std.specs.Prelude.{List, ℕ, [], Option}
 use Rattle.fer_outside.specs.Held.{Held}
 use Rattle.litmus_syntax.specs.Test.{Test}
 use Rattle.litmus_reader.specs.LitmusText.{IsLitmusText}
+use Rattle.fer_events.specs.declared.event.Crash.{Crash}
 use Rattle.call_events.specs.Resolved.{HasEvents}
 use Rattle.model_reader.specs.declared.model.Model.{Model}
 use Rattle.model_reader.specs.ModelText.{IsModelText}
 use Rattle.model_library.specs.ShippedModels.{shipped_text}
+use Rattle.witness_replay.specs.CrashFiles.{IsCrashText}
 use Rattle.command_line.specs.declared.commands.ModelName.{ModelName}
 use Rattle.command_line.specs.declared.commands.ModelName.TheVariants.{Shipped, File}
-use Rattle.report.specs.declared.outcome.Role.TheVariants.{LitmusFile, ModelFile}
+use Rattle.report.specs.declared.outcome.Role.TheVariants.{LitmusFile, ModelFile, CrashFile}
 use Rattle.ferrite_run.specs.declared.question.Question.{Question}
 use Rattle.ferrite_run.specs.Fetching.{IsFetched}
 use Rattle.ferrite_run.specs.Asking.{AreKept}
@@ -30,3 +32,7 @@ pub record IsQuestionOf (told : Option Held) (litmus : List ℕ) (name : ModelNa
   pub model_read : IsModelOf told name model
   pub resolved : HasEvents q.litmus [] q.events
   pub kept : AreKept model q.events.events q.pairs
+
+-- the crash that the crash file of this name is
+abbrev pub IsCrashOf : Option Held → List ℕ → Crash → Type 0
+IsCrashOf told name crash = (bytes : List ℕ) × IsFetched told CrashFile name bytes × IsCrashText bytes crash

@@ -1,50 +1,47 @@
-ghost use Rattle.std.specs.Prelude.{◌≡◌, ℕ, ◌≤◌, List, length, IfOk};
+ghost use Rattle.std.specs.Prelude.{◌≡◌, ℕ, ◌≤◌, List, length};
 ghost use Rattle.fer_outside.specs.Causes.{Rose};
-ghost use Rattle.fer_events.specs.Orders.{numbers, all_pairs};
-ghost use Rattle.model_library.specs.declared.texts.ShippedModel.TheVariants.{Sequential};
-ghost use Rattle.command_line.specs.declared.commands.ModelName.TheVariants.{Shipped};
+ghost use Rattle.fer_events.specs.Orders.{AreForward};
 ghost use Rattle.ferrite_run.specs.Asking.{OnQuestion};
 ghost use Rattle.ferrite_run.specs.Check.{IsChecked};
 ghost use Rattle.ferrite_run.specs.Saying.{Replies};
 
 use crate::asking::question_of;
-use crate::cuts::least_cut;
-use crate::laws::sequential_keeps_all;
 use crate::question::Question;
 use crate::saying::{Said, Stop, replied};
+use branch_rules::Brancher;
 use command_line::{FileName, ModelName};
-use fer_events::{Crash, all_pairs_keep_program_order};
-use fer_list::Seq;
+use crash_question::{Answer, ask};
+use event_relations::kept_pairs_are_forward;
 use fer_outside::Library;
 use report::Outcome;
-use std::alloc::{AllocError, Global};
+use std::alloc::Global;
 
-/// The numbers of so many events, in program order.
-fn program_order(alloc: Global, count: u32) -> Result<Seq<u32>, AllocError>
-    ensures ordered { IfOk result (λ order. order ≡ numbers count) }
-{
-    let mut order = Seq::new(alloc);
-    for event in 0..count {
-        order.push(event + 1)?;
-    }
-    Ok(order)
-}
-
-/// Whether a crash answers the question, where every pair of events is kept: then the crashes are the cuts of program
-/// order.
-fn verdict(alloc: Global, question: &Question) -> Result<Said, Stop>
-    requires all_kept { question.now.pairs.pairs ≡ all_pairs (length question.now.events.events) }
+/// Whether a crash answers the question.
+fn verdict(
+    alloc: Global,
+    question: &Question,
+    brancher: &mut Option<Box<dyn Brancher>>,
+) -> Result<Said, Stop>
+    requires size { question.now.pairs.n ≡ length question.now.events.events }
+    requires forward { AreForward question.now.pairs.n question.now.pairs.pairs }
     ensures checked { Replies (IsChecked question.now) result }
 {
-    all_pairs_keep_program_order();
-    question.events.keeps_rules();
     let litmus = &question.litmus;
-    let Some(cut) = least_cut(alloc, &question.events, litmus.pred(), litmus.want())? else {
-        return replied(alloc, &Outcome::Forbidden);
-    };
-    let order = program_order(alloc, question.events.events().len() as u32)?;
-    let crash = Crash { order, cut };
-    replied(alloc, &Outcome::Allowed { crash: &crash })
+    // So many conflicts never come.
+    let limit = u64::MAX;
+    match ask(
+        alloc,
+        &question.events,
+        &question.pairs,
+        litmus.pred(),
+        litmus.want(),
+        limit,
+        brancher,
+    )? {
+        Answer::Allowed(crash) => replied(alloc, &Outcome::Allowed { crash: &crash }),
+        Answer::Forbidden => replied(alloc, &Outcome::Forbidden),
+        Answer::Spent => unreachable!(),
+    }
 }
 
 /// Whether a crash answers the question: `allowed` with such a crash, or `forbidden`.
@@ -53,13 +50,13 @@ pub fn check<L: Library>(
     litmus: &FileName,
     model: &ModelName,
     library: &mut L,
+    brancher: &mut Option<Box<dyn Brancher>>,
 ) -> Result<Said, Stop>
-    requires sequential { model.now ≡ Shipped Sequential }
     ensures answered { Replies (OnQuestion (L.held library.old) (λ other. Rose (L.faults library.old other) (L.faults library.new other)) litmus.now model.now IsChecked) result }
     ensures stays { L.held library.new ≡ L.held library.old }
     ensures never_falls { (other : List ℕ) → L.faults library.old other ≤ L.faults library.new other }
 {
-    sequential_keeps_all();
+    kept_pairs_are_forward();
     let question = question_of(alloc, litmus, model, library)?;
-    verdict(alloc, &question)
+    verdict(alloc, &question, brancher)
 }

@@ -16,14 +16,17 @@ ghost use Rattle.ferrite_run.specs.Asking.{AreKept};
 
 use call_events::one_outcome;
 use command_line::one_command;
+use witness_replay::{one_crash, one_judgement};
 
 /// Without faults, what a library holds and the words give one answer, but for the crash that shows that a question is
 /// allowed.
 pub fn one_answer()
-    ensures one { (held : Held) (words : List (List ℕ)) (x y : Answer) → IsAnswer (Some held) (λ name. ⊥) words x → IsAnswer (Some held) (λ name. ⊥) words y → Agree x y }
+    ensures one { (held : Held) (words choices : List (List ℕ)) (x y : Answer) → IsAnswer (Some held) (λ name. ⊥) words choices x → IsAnswer (Some held) (λ name. ⊥) words choices y → Agree x y }
 {
     one_command();
     one_outcome();
+    one_crash();
+    one_judgement();
     litmus_reader::one_reading();
     model_reader::one_reading();
 }

@@ -2,24 +2,26 @@
 //! the command and writes the answer. The work is a row of steps, each a relation that takes what follows as a parameter;
 //! the first step that ends the work says the answer. An answer is a value with one status and one text. Each step is a
 //! function with a contract of its own, and the contract of `run` is what they come to together. It stands on the readers
-//! of litmus files and models, on the events that calls become, on the pairs that a model keeps, on the states that
-//! crashes leave, and on the texts of `report`.
+//! of litmus files and models, on the events that calls become, on the pairs that a model keeps, on the search of
+//! `crash_question`, and on the texts of `report`.
 #![tactic(auto)]
 
 mod asking;
 mod built;
 mod checking;
-mod cuts;
+mod choices;
 mod fetching;
 mod laws;
 mod listing;
 mod question;
 mod reading;
+mod replaying;
 mod saying;
 mod showing;
 mod top;
 mod writing;
 
+pub use choices::Choice;
 pub use command_line::Words;
 pub use laws::{one_answer, sequential_keeps_all};
 pub use top::run;

@@ -2,20 +2,23 @@ ghost use Rattle.std.specs.Prelude.{◌≡◌, ℕ, ◌≤◌, List, IfOk, IfErr
 ghost use Rattle.fer_outside.specs.Causes.{Rose};
 ghost use Rattle.litmus_reader.specs.LitmusText.{IsLitmusText};
 ghost use Rattle.model_reader.specs.ModelText.{IsModelText};
+ghost use Rattle.witness_replay.specs.CrashFiles.{IsCrashText};
 ghost use Rattle.command_line.specs.declared.commands.ModelName.TheVariants.{File};
-ghost use Rattle.ferrite_run.specs.Reading.{IsNoLitmus, IsNoModel, OnLitmus, OnModel};
-ghost use Rattle.ferrite_run.specs.Yields.{IsLitmusOf, IsModelOf};
+ghost use Rattle.ferrite_run.specs.Reading.{IsNoLitmus, IsNoModel, IsNoCrash, OnLitmus, OnModel, OnCrash};
+ghost use Rattle.ferrite_run.specs.Yields.{IsLitmusOf, IsModelOf, IsCrashOf};
 ghost use Rattle.ferrite_run.specs.Saying.{StopsWith};
 
 use crate::fetching::fetch;
 use crate::saying::{Stop, stopped};
 use command_line::{FileName, ModelName};
+use fer_events::Crash;
 use fer_outside::Library;
 use litmus_reader::LitmusFault;
 use litmus_syntax::Litmus;
 use model_reader::{Model, ModelFault};
 use report::{Outcome, Role};
 use std::alloc::Global;
+use witness_replay::CrashFault;
 
 /// The test that the bytes of a litmus file are.
 fn read_litmus(alloc: Global, bytes: &[u8]) -> Result<Litmus, Stop>
@@ -44,6 +47,18 @@ fn read_model(alloc: Global, bytes: &[u8]) -> Result<Model, Stop>
             Err(stopped(alloc, &Outcome::ModelRefused { line, kind }))
         }
         Err(ModelFault::OutOfMemory) => Err(Stop::OutOfMemory),
+    }
+}
+
+/// The crash that the bytes of a crash file are.
+fn read_crash(alloc: Global, bytes: &[u8]) -> Result<Crash, Stop>
+    ensures read { IfOk result (λ crash. IsCrashText bytes.now crash) }
+    ensures unread { IfErr result (StopsWith (IsNoCrash bytes.now)) }
+{
+    match witness_replay::read(alloc, bytes) {
+        Ok(crash) => Ok(crash),
+        Err(CrashFault::BadText) => Err(stopped(alloc, &Outcome::CrashUnread)),
+        Err(CrashFault::OutOfMemory) => Err(Stop::OutOfMemory),
     }
 }
 
@@ -92,4 +107,16 @@ pub fn model_of<L: Library>(alloc: Global, name: &ModelName, library: &mut L) ->
             Ok(model)
         }
     }
+}
+
+/// The crash in the crash file of this name.
+pub fn crash_of<L: Library>(alloc: Global, name: &FileName, library: &mut L) -> Result<Crash, Stop>
+    ensures read { IfOk result (λ crash. IsCrashOf (L.held library.old) name.now crash) }
+    ensures unread { IfErr result (StopsWith (OnCrash (L.held library.old) (λ other. Rose (L.faults library.old other) (L.faults library.new other)) name.now (λ _ _. ⊥))) }
+    ensures stays { L.held library.new ≡ L.held library.old }
+    ensures never_falls { (other : List ℕ) → L.faults library.old other ≤ L.faults library.new other }
+{
+    let bytes = fetch(alloc, Role::CrashFile, name, library)?;
+    let crash = read_crash(alloc, bytes.as_slice())?;
+    Ok(crash)
 }

@@ -3,17 +3,21 @@ ghost use Rattle.fer_outside.specs.Causes.{Rose, Grew};
 ghost use Rattle.command_line.specs.declared.commands.Command.{Command};
 ghost use Rattle.report.specs.Answers.{Answer, answer_text};
 ghost use Rattle.ferrite_run.specs.Built.{IsBuilt};
-ghost use Rattle.ferrite_run.specs.Found.{IsFoundReply};
+ghost use Rattle.ferrite_run.specs.Choices.{choice_words};
+ghost use Rattle.ferrite_run.specs.Found.{IsFound, IsFoundReply};
 ghost use Rattle.ferrite_run.specs.Answers.{Asks, IsReply, IsAnswer, IsFileOf, IsProperFront};
 ghost use Rattle.ferrite_run.specs.Saying.{SaysOne, Replies};
 ghost use Rattle.ferrite_run.specs.Statuses.{status_of};
 
 use crate::built::is_built;
 use crate::checking::check;
+use crate::choices::{Choice, taken, words_of};
 use crate::listing::list;
+use crate::replaying::replay;
 use crate::saying::{Said, Stop, replied, say};
 use crate::showing::show;
 use crate::writing::write_whole;
+use branch_rules::Brancher;
 use command_line::{Command, Words, command_of, one_command};
 use fer_outside::{Library, Sink};
 use report::Outcome;
@@ -26,14 +30,24 @@ const WRITE_FAULT: u8 = 8;
 const OUT_OF_MEMORY: u8 = 9;
 
 /// What a command that is built answers.
-fn reply<L: Library>(alloc: Global, command: &Command, library: &mut L) -> Result<Said, Stop>
+fn reply<L: Library>(
+    alloc: Global,
+    command: &Command,
+    library: &mut L,
+    brancher: &mut Option<Box<dyn Brancher>>,
+) -> Result<Said, Stop>
     requires built { IsBuilt command.now }
     ensures replied { Replies (IsReply (L.held library.old) (λ other. Rose (L.faults library.old other) (L.faults library.new other)) command.now) result }
     ensures stays { L.held library.new ≡ L.held library.old }
     ensures never_falls { (other : List ℕ) → L.faults library.old other ≤ L.faults library.new other }
 {
     match command {
-        Command::Check { litmus, model, .. } => check(alloc, litmus, model, library),
+        Command::Check { litmus, model, .. } => check(alloc, litmus, model, library, brancher),
+        Command::Replay {
+            litmus,
+            model,
+            crash,
+        } => replay(alloc, litmus, model, crash, library),
         Command::Events { litmus, model } => list(alloc, litmus, model, library),
         Command::Show { litmus } => show(alloc, litmus, library),
         Command::Models => replied(alloc, &Outcome::Models),
@@ -47,13 +61,14 @@ fn answer_command<L: Library>(
     alloc: Global,
     command: &Command,
     library: &mut L,
+    brancher: &mut Option<Box<dyn Brancher>>,
 ) -> Result<Said, AllocError>
     requires built { IsBuilt command.now }
     ensures replied { IfOk result (SaysOne (IsReply (L.held library.old) (λ other. Rose (L.faults library.old other) (L.faults library.new other)) command.now)) }
     ensures stays { L.held library.new ≡ L.held library.old }
     ensures never_falls { (other : List ℕ) → L.faults library.old other ≤ L.faults library.new other }
 {
-    match reply(alloc, command, library) {
+    match reply(alloc, command, library, brancher) {
         Ok(said) => Ok(said),
         Err(Stop::Answered(said)) => Ok(said),
         Err(Stop::OutOfMemory) => Err(AllocError),
@@ -65,6 +80,7 @@ fn answer_found<L: Library>(
     alloc: Global,
     found: &Option<Command>,
     library: &mut L,
+    branchers: Vec<Choice<'_>>,
 ) -> Result<Said, AllocError>
     ensures answered { IfOk result (SaysOne (IsFoundReply (L.held library.old) (λ name. Rose (L.faults library.old name) (L.faults library.new name)) found.now)) }
     ensures untouched { ((command : Command) → found.now ≡ Some command → IsBuilt command → ⊥) → library.new ≡ library.old }
@@ -75,7 +91,8 @@ fn answer_found<L: Library>(
         None => say(alloc, &Outcome::Usage),
         Some(command) => {
             if is_built(command) {
-                answer_command(alloc, command, library)
+                let mut brancher = taken(branchers, command);
+                answer_command(alloc, command, library, &mut brancher)
             } else {
                 say(alloc, &Outcome::Usage)
             }
@@ -83,47 +100,69 @@ fn answer_found<L: Library>(
     }
 }
 
+/// The command that is found in the words, with these choices for `--branch`.
+fn command_among(
+    alloc: Global,
+    words: &Words,
+    choices: &[Choice<'_>],
+) -> Result<Option<Command>, AllocError>
+    ensures read { IfOk result (IsFound words.now (choice_words choices.now)) }
+{
+    let choices = words_of(alloc, choices)?;
+    command_of(alloc, words, choices.as_slice())
+}
+
 /// What is answered to the words.
 fn answer_words<L: Library>(
     alloc: Global,
     words: &Words,
     library: &mut L,
+    branchers: Vec<Choice<'_>>,
 ) -> Result<Said, AllocError>
-    ensures answered { IfOk result (SaysOne (IsAnswer (L.held library.old) (λ name. Rose (L.faults library.old name) (L.faults library.new name)) words.now)) }
-    ensures untouched { ((command : Command) → Asks words.now command → ⊥) → library.new ≡ library.old }
+    ensures answered { IfOk result (SaysOne (IsAnswer (L.held library.old) (λ name. Rose (L.faults library.old name) (L.faults library.new name)) words.now (choice_words branchers.entry.items))) }
+    ensures untouched { ((command : Command) → Asks words.now (choice_words branchers.entry.items) command → ⊥) → library.new ≡ library.old }
     ensures stays { L.held library.new ≡ L.held library.old }
     ensures never_falls { (other : List ℕ) → L.faults library.old other ≤ L.faults library.new other }
 {
     one_command();
-    let found = command_of(alloc, words, &[])?;
-    answer_found(alloc, &found, library)
+    match command_among(alloc, words, branchers.as_slice()) {
+        Ok(found) => answer_found(alloc, &found, library, branchers),
+        Err(AllocError) => Err(AllocError),
+    }
 }
 
 /// Does all that the program does, and answers its status: 0 where the command's answer was written, 1 where a log or a
 /// crash is refused, 3 where the words are no command line, 4 where the litmus file is refused and 5 where the model is, 6
 /// where a file isn't there, 7 where it can't be read, 8 where the text couldn't be written whole, and 9 where memory was
-/// wanting.
-pub fn run<L: Library, K: Sink>(alloc: Global, words: &Words, library: &mut L, out: &mut K) -> u8
+/// wanting. A search decides as the rule of that of `branchers` says which `--branch` names, or the first one, and else by
+/// the least variable without a value; the others are dropped before a file is fetched.
+pub fn run<L: Library, K: Sink>(
+    alloc: Global,
+    words: &Words,
+    library: &mut L,
+    out: &mut K,
+    branchers: Vec<Choice<'_>>,
+) -> u8
     // At a status below 8 it is that of an answer whose text was written whole.
-    ensures answered { result < 8 → (answer : Answer) × IsAnswer (L.held library.old) (λ name. Rose (L.faults library.old name) (L.faults library.new name)) words.now answer
+    ensures answered { result < 8 → (answer : Answer) × IsAnswer (L.held library.old) (λ name. Rose (L.faults library.old name) (L.faults library.new name)) words.now (choice_words branchers.entry.items) answer
         × (result ≡ status_of answer) × Grew (K.written out.old) (K.written out.new) (answer_text answer) }
     // At 8 a write failed, and a part of such a text was written that isn't the whole of it.
-    ensures cut_short { result ≡ 8 → (answer : Answer) × (front : List ℕ) × IsAnswer (L.held library.old) (λ name. Rose (L.faults library.old name) (L.faults library.new name)) words.now answer
+    ensures cut_short { result ≡ 8 → (answer : Answer) × (front : List ℕ) × IsAnswer (L.held library.old) (λ name. Rose (L.faults library.old name) (L.faults library.new name)) words.now (choice_words branchers.entry.items) answer
         × IsProperFront front (answer_text answer) × Grew (K.written out.old) (K.written out.new) front }
     ensures write_fault { result ≡ 8 → Rose (K.faults out.old) (K.faults out.new) }
     // At 9 no write was tried.
     ensures out_of_memory { result ≡ 9 → out.new ≡ out.old }
     // Where the words are no command that is built nothing is fetched.
-    ensures untouched { ((command : Command) → Asks words.now command → ⊥) → library.new ≡ library.old }
+    ensures untouched { ((command : Command) → Asks words.now (choice_words branchers.entry.items) command → ⊥) → library.new ≡ library.old }
     // Where no count of faults rose and memory sufficed, the answer is that of a run without faults.
-    ensures complete { ((command : Command) (name : List ℕ) → Asks words.now command → IsFileOf command name → Rose (L.faults library.old name) (L.faults library.new name) → ⊥) → (Rose (K.faults out.old) (K.faults out.new) → ⊥)
-        → (result ≡ 9) ⊎ ((answer : Answer) × IsAnswer (L.held library.old) (λ name. ⊥) words.now answer × (result ≡ status_of answer) × Grew (K.written out.old) (K.written out.new) (answer_text answer)) }
+    ensures complete { ((command : Command) (name : List ℕ) → Asks words.now (choice_words branchers.entry.items) command → IsFileOf command name → Rose (L.faults library.old name) (L.faults library.new name) → ⊥) → (Rose (K.faults out.old) (K.faults out.new) → ⊥)
+        → (result ≡ 9) ⊎ ((answer : Answer) × IsAnswer (L.held library.old) (λ name. ⊥) words.now (choice_words branchers.entry.items) answer × (result ≡ status_of answer) × Grew (K.written out.old) (K.written out.new) (answer_text answer)) }
     ensures known { result ≤ 9 }
     ensures held_stays { L.held library.new ≡ L.held library.old }
     ensures faults_stay { (name : List ℕ) → L.faults library.old name ≤ L.faults library.new name }
     ensures write_faults_stay { K.faults out.old ≤ K.faults out.new }
 {
-    match answer_words(alloc, words, library) {
+    match answer_words(alloc, words, library, branchers) {
         Err(_) => OUT_OF_MEMORY,
         Ok(said) => {
             if write_whole(out, said.text.as_slice()) {

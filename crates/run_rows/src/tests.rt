@@ -1,5 +1,6 @@
+use branch_rules::{Activity, First, Last};
 use fer_outside::{MemLibrary, MemSink, SureLibrary, SureSink};
-use ferrite_run::{Words, run};
+use ferrite_run::{Choice, Words, run};
 use std::alloc::{AllocError, Global};
 use std::test::Fail;
 
@@ -9,6 +10,14 @@ const FIRST: &str =
 const REPLACE: &str =
     "litmus replace\nsetup:\ncreate /f\nwrite /f 0 \"old\"\nbody:\ncreate /g\nwrite /g 0 \"new\"\nrename /g /f\nexists: content(/f) = \"\"\n";
 
+/// Thirty names, whose order is free under the loosest model, with a sync before the mark.
+const THIRTY_SYNCED: &str =
+    "litmus thirty\nbody:\ncreate /n1\ncreate /n2\ncreate /n3\ncreate /n4\ncreate /n5\ncreate /n6\ncreate /n7\ncreate /n8\ncreate /n9\ncreate /n10\ncreate /n11\ncreate /n12\ncreate /n13\ncreate /n14\ncreate /n15\ncreate /n16\ncreate /n17\ncreate /n18\ncreate /n19\ncreate /n20\ncreate /n21\ncreate /n22\ncreate /n23\ncreate /n24\ncreate /n25\ncreate /n26\ncreate /n27\ncreate /n28\ncreate /n29\ncreate /n30\nsync\nmark m\nexists: seen(m) and not exists(/n30)\n";
+
+/// The same without the sync.
+const THIRTY: &str =
+    "litmus thirty\nbody:\ncreate /n1\ncreate /n2\ncreate /n3\ncreate /n4\ncreate /n5\ncreate /n6\ncreate /n7\ncreate /n8\ncreate /n9\ncreate /n10\ncreate /n11\ncreate /n12\ncreate /n13\ncreate /n14\ncreate /n15\ncreate /n16\ncreate /n17\ncreate /n18\ncreate /n19\ncreate /n20\ncreate /n21\ncreate /n22\ncreate /n23\ncreate /n24\ncreate /n25\ncreate /n26\ncreate /n27\ncreate /n28\ncreate /n29\ncreate /n30\nmark m\nexists: seen(m) and not exists(/n30)\n";
+
 /// The words of a command line.
 fn words_of(alloc: Global, words: &[&str]) -> Result<Words, AllocError> {
     let mut line = Words::new(alloc);
@@ -16,6 +25,24 @@ fn words_of(alloc: Global, words: &[&str]) -> Result<Words, AllocError> {
         line.push(word)?;
     }
     Ok(line)
+}
+
+/// The choices for `--branch`, as the program hands them in.
+fn choices(alloc: Global) -> Result<Vec<Choice<'static>>, AllocError> {
+    let mut choices = Vec::new(alloc);
+    choices.push(Choice {
+        word: "activity",
+        item: Box::new(alloc, Activity::new())?,
+    })?;
+    choices.push(Choice {
+        word: "first",
+        item: Box::new(alloc, First::new())?,
+    })?;
+    choices.push(Choice {
+        word: "last",
+        item: Box::new(alloc, Last::new())?,
+    })?;
+    Ok(choices)
 }
 
 /// What is written for the words over these files, of which the fetch of this number fails, and the status as the last
@@ -33,17 +60,19 @@ fn written(
     }
     library.fail_at(failing)?;
     let mut out = MemSink::new(alloc, 1000, 1000)?;
-    let status = run(alloc, &words, &mut library, &mut out);
+    let status = run(alloc, &words, &mut library, &mut out, choices(alloc)?);
     let mut all = Vec::from_slice(alloc, out.bytes())?;
     all.push(b'0' + status.min(9))?;
     Ok(all)
 }
 
-/// The words of a command on the file `a.lit`, under the sequential model where it takes one.
+/// The words of a command on the file `a.lit`, under the sequential model where it takes one and names none.
 fn words_about(command: &str) -> &'static [&'static str] {
     match command {
         "show" => &["show", "a.lit"],
         "events" => &["events", "a.lit", "@sequential"],
+        "check @ext4like" => &["check", "a.lit", "@ext4like"],
+        "check @loose" => &["check", "a.lit", "@loose"],
         _ => &["check", "a.lit", "@sequential"],
     }
 }
@@ -71,11 +100,6 @@ const ANSWERS: &[(&str, &str, &str)] = &[
         "check",
         "litmus a\nbody:\nmark a\nmark b\nexists: seen(a) and not seen(b)\n",
         "allowed\norder 1 | 2\n0",
-    ),
-    (
-        "check",
-        "litmus replace\nsetup:\ncreate /f\nwrite /f 0 \"old\"\nbody:\ncreate /g\nwrite /g 0 \"new\"\nrename /g /f\nexists: content(/f) = \"old\"\n",
-        "allowed\norder | 1 2 3 4\n0",
     ),
     (
         "check",
@@ -249,11 +273,6 @@ const ANSWERS: &[(&str, &str, &str)] = &[
     ),
     (
         "check",
-        "litmus far\nsetup:\ncreate /f\nwrite /f 0 \"ab\"\nbody:\nwrite /f 1 \"XY\"\nwrite /f 6 \"Z\"\nattr /f m 7\nexists: content(/f) = \"aXY\\x00\\x00\\x00Z\" and size(/f) = 7\n",
-        "allowed\norder 1 2 | 3\n0",
-    ),
-    (
-        "check",
         "litmus far\nsetup:\ncreate /f\nwrite /f 0 \"ab\"\nbody:\nwrite /f 1 \"XY\"\nwrite /f 6 \"Z\"\nattr /f m 7\nexists: content(/f) = \"aXY\" and size(/f) = 3\n",
         "allowed\norder 1 | 2 3\n0",
     ),
@@ -272,6 +291,90 @@ const ANSWERS: &[(&str, &str, &str)] = &[
         "litmus uneven 2\nblock 4\nsector 3\nsetup:\ncreate /f\nbody:\nwrite /f 0 \"AAAABBBB\"\nexists: true\n",
         "event 1 extend file 0 block 0 at 0 len 3 size 3 call 1 txn 1\nevent 2 extend file 0 block 0 at 3 len 1 size 4 call 1 txn 2\nevent 3 extend file 0 block 1 at 4 len 2 size 6 call 1 txn 3\nevent 4 extend file 0 block 1 at 6 len 2 size 8 call 1 txn 4\nkeep 1 2\nkeep 1 3\nkeep 1 4\nkeep 2 3\nkeep 2 4\nkeep 3 4\n0",
     ),
+    ("check @ext4like", FIRST, "allowed\norder 2 | 1\n0"),
+    ("check @loose", FIRST, "allowed\norder 2 | 1\n0"),
+    ("check @ext4like", REPLACE, "allowed\norder 1 3 4 | 2\n0"),
+    (
+        "check @ext4like",
+        "litmus replace\nsetup:\ncreate /f\nwrite /f 0 \"old\"\nbody:\ncreate /g\nwrite /g 0 \"new\"\nrename /g /f\nexists: same(/f, /g)\n",
+        "forbidden\n0",
+    ),
+    (
+        "check @ext4like",
+        "litmus empty\nbody:\nexists: true\n",
+        "allowed\norder |\n0",
+    ),
+    (
+        "check @loose",
+        "litmus empty\nbody:\nexists: true\n",
+        "allowed\norder |\n0",
+    ),
+    (
+        "check @loose",
+        "litmus first\nbody:\n  create /f\n  mark done\nexists: false\n",
+        "forbidden\n0",
+    ),
+    (
+        "check @ext4like",
+        "litmus x\nblock 4\nsetup:\ncreate /f\nwrite /f 0 \"aaaabbbb\"\nbody:\nwrite /f 0 \"AAAABBBB\"\nexists: content(/f) = \"aaaaBBBB\"\n",
+        "allowed\norder 2 | 1\n0",
+    ),
+    (
+        "check @loose",
+        "litmus x\nsetup:\ncreate /f\nwrite /f 0 \"x\"\nbody:\nwrite /f 0 \"a\"\nwrite /f 0 \"b\"\nsync\nmark m\nexists: seen(m) and content(/f) = \"a\"\n",
+        "allowed\norder 2 1 3 4 |\n0",
+    ),
+    (
+        "check @ext4like",
+        "litmus x\nsetup:\ncreate /f\nwrite /f 0 \"x\"\nbody:\nwrite /f 0 \"a\"\nwrite /f 0 \"b\"\nsync\nmark m\nexists: seen(m) and content(/f) = \"a\"\n",
+        "forbidden\n0",
+    ),
+    (
+        "check @ext4like",
+        "litmus x\nsetup:\ncreate /f\nwrite /f 0 \"ab\"\nbody:\nwrite /f 1 \"XY\"\nwrite /f 6 \"Z\"\nexists: content(/f) = \"aXY\\x00\\x00\\x00Z\"\n",
+        "allowed\norder 1 2 |\n0",
+    ),
+    (
+        "check @ext4like",
+        "litmus x\nsetup:\ncreate /f\nbody:\nattr /f mode 7\nexists: attr(/f, mode) = 7\n",
+        "allowed\norder 1 |\n0",
+    ),
+    (
+        "check @loose",
+        "litmus x\nsetup:\ncreate /f\nbody:\nattr /f mode 7\nexists: attr(/f, mode) = 8\n",
+        "forbidden\n0",
+    ),
+    (
+        "check @ext4like",
+        "litmus safe-replace\nsetup:\nmkdir /etc\ncreate /etc/conf\nwrite /etc/conf 0 \"v1\"\nbody:\ncreate /etc/conf.new\nwrite /etc/conf.new 0 \"v2\"\nfsync /etc/conf.new\nrename /etc/conf.new /etc/conf\nfsyncdir /etc\nmark saved\nalways: (content(/etc/conf) = \"v1\" or content(/etc/conf) = \"v2\") and (not seen(saved) or content(/etc/conf) = \"v2\")\n",
+        "forbidden\n0",
+    ),
+    ("check @loose", THIRTY_SYNCED, "forbidden\n0"),
+    (
+        "check @loose",
+        "litmus atomic 2\nbody:\nbegin\ncreate /a\ncreate /b\ncommit\nexists: exists(/a) and not exists(/b)\n",
+        "forbidden\n0",
+    ),
+    (
+        "check @loose",
+        "litmus plain 2\nbody:\ncreate /a\ncreate /b\nexists: exists(/a) and not exists(/b)\n",
+        "allowed\norder 1 | 2\n0",
+    ),
+    (
+        "check @ext4like",
+        "litmus torn 2\nblock 4\nsector 2\nsetup:\ncreate /f\nwrite /f 0 \"aaaabbbb\"\nbody:\nwrite /f 0 \"AAAA\"\nexists: content(/f) = \"AAaabbbb\"\n",
+        "allowed\norder 1 | 2\n0",
+    ),
+    (
+        "check @ext4like",
+        "litmus torn 2\nblock 4\nsector 2\nsetup:\ncreate /f\nwrite /f 0 \"aaaabbbb\"\nbody:\nwrite /f 0 \"AAAA\"\nexists: content(/f) = \"aaAAbbbb\"\n",
+        "forbidden\n0",
+    ),
+    (
+        "check @loose",
+        "litmus torn 2\nblock 4\nsector 2\nsetup:\ncreate /f\nwrite /f 0 \"aaaabbbb\"\nbody:\nwrite /f 0 \"AAAA\"\nexists: content(/f) = \"aaAAbbbb\"\n",
+        "allowed\norder 2 | 1\n0",
+    ),
 ];
 
 #[test]
@@ -279,6 +382,61 @@ fn answers(rt: HostRuntime) -> Result<(), Fail> {
     for (command, text, want) in ANSWERS {
         let answer = written_about(rt.alloc(), command, text.as_bytes())?;
         assert_eq!(rt; answer.as_slice(), want.as_bytes(), "at {text}");
+    }
+    Ok(())
+}
+
+/// The model's word, and a file whose question several crashes answer under it.
+const JUDGED: &[(&str, &str)] = &[
+    (
+        "@loose",
+        "litmus replace\nsetup:\ncreate /f\nwrite /f 0 \"old\"\nbody:\ncreate /g\nwrite /g 0 \"new\"\nrename /g /f\nexists: same(/f, /g)\n",
+    ),
+    (
+        "@sequential",
+        "litmus replace\nsetup:\ncreate /f\nwrite /f 0 \"old\"\nbody:\ncreate /g\nwrite /g 0 \"new\"\nrename /g /f\nexists: content(/f) = \"old\"\n",
+    ),
+    (
+        "@ext4like",
+        "litmus replace\nsetup:\ncreate /f\nwrite /f 0 \"old\"\nbody:\ncreate /g\nwrite /g 0 \"new\"\nrename /g /f\nexists: content(/f) = \"old\"\n",
+    ),
+    (
+        "@sequential",
+        "litmus far\nsetup:\ncreate /f\nwrite /f 0 \"ab\"\nbody:\nwrite /f 1 \"XY\"\nwrite /f 6 \"Z\"\nattr /f m 7\nexists: content(/f) = \"aXY\\x00\\x00\\x00Z\" and size(/f) = 7\n",
+    ),
+    (
+        "@ext4like",
+        "litmus safe-replace\nsetup:\nmkdir /etc\ncreate /etc/conf\nwrite /etc/conf 0 \"v1\"\nbody:\ncreate /etc/conf.new\nwrite /etc/conf.new 0 \"v2\"\nrename /etc/conf.new /etc/conf\nmark saved\nalways: (content(/etc/conf) = \"v1\" or content(/etc/conf) = \"v2\") and (not seen(saved) or content(/etc/conf) = \"v2\")\n",
+    ),
+    ("@loose", THIRTY),
+];
+
+/// The crash line of an answer that says `allowed`: what stands between the first line and the status.
+fn crash_line(answer: &[u8]) -> &[u8] {
+    match answer.strip_prefix(b"allowed\n") {
+        Some([line @ .., b'0']) => line,
+        _ => &[],
+    }
+}
+
+/// Each crash that is printed is accepted by `replay`, whichever of the choices decides.
+#[test]
+fn crashes_are_accepted(rt: HostRuntime) -> Result<(), Fail> {
+    let alloc = rt.alloc();
+    for (model, text) in JUDGED {
+        for choice in ["activity", "first", "last"] {
+            let words = ["check", "a.lit", model, "--branch", choice];
+            let files = [("a.lit", text.as_bytes())];
+            let answer = written(alloc, words.as_slice(), files.as_slice(), 0)?;
+            let line = crash_line(answer.as_slice());
+            let files = [("a.lit", text.as_bytes()), ("c", line)];
+            let judged = written(alloc, &["replay", "a.lit", model, "c"], files.as_slice(), 0)?;
+            assert_eq!(rt;
+                judged.as_slice(),
+                b"crash accepted\n0".as_slice(),
+                "at {text}"
+            );
+        }
     }
     Ok(())
 }
@@ -444,12 +602,196 @@ fn faults_of_writing(rt: HostRuntime) -> Result<(), Fail> {
     library.put("a.lit", FIRST.as_bytes())?;
     let mut out = MemSink::new(alloc, 100, 4)?;
     out.fail_at(2)?;
-    assert_eq!(rt; run(alloc, &words, &mut library, &mut out), 8);
+    assert_eq!(rt;
+        run(alloc, &words, &mut library, &mut out, choices(alloc)?),
+        8
+    );
     assert_eq!(rt; out.bytes(), b"forb".as_slice());
     let mut library = SureLibrary::new(alloc);
     library.put("a.lit", FIRST.as_bytes())?;
     let mut out = SureSink::new();
-    assert_eq!(rt; run(alloc, &words, &mut library, &mut out), 0);
+    assert_eq!(rt;
+        run(alloc, &words, &mut library, &mut out, Vec::new(alloc)),
+        0
+    );
+    Ok(())
+}
+
+/// The test without events, of which the question is answered by every crash.
+const EMPTY: &str = "litmus empty\nbody:\nexists: true\n";
+
+const PROMISE: &str = "litmus promise\nbody:\ncreate /f\nalways: exists(/f)\n";
+
+const REPLAY: &[&str] = &["replay", "a.lit", "@ext4like", "c"];
+
+const REPLAY_LOOSE: &[&str] = &["replay", "a.lit", "@loose", "c"];
+
+const REPLAY_FILE: &[&str] = &["replay", "a.lit", "m", "c"];
+
+/// Words, the files that are held, the fetch that fails, what is written, and the status.
+const REPLAYS: &[(&[&str], &[(&str, &str)], u64, &str)] = &[
+    // The events are 1 link /g, 2 extend, 3 link /f, 4 unlink /g, the last two one transaction, and of these 1 3, 1 4 and
+    // 3 4 are kept.
+    (
+        REPLAY,
+        &[("a.lit", REPLACE), ("c", "order 1 3 4 | 2\n")],
+        0,
+        "crash accepted\n0",
+    ),
+    (
+        REPLAY,
+        &[("a.lit", REPLACE), ("c", "allowed\norder 1 3 4 | 2")],
+        0,
+        "crash accepted\n0",
+    ),
+    (
+        REPLAY,
+        &[("a.lit", REPLACE), ("c", "order 1 3 4 | 1\n")],
+        0,
+        "crash refused: kind 1\n1",
+    ),
+    (
+        REPLAY,
+        &[("a.lit", REPLACE), ("c", "order 3 1 4 | 2\n")],
+        0,
+        "crash refused: kind 2 pair 1 3\n1",
+    ),
+    (
+        REPLAY,
+        &[("a.lit", REPLACE), ("c", "order 1 | 4 2 3\n")],
+        0,
+        "crash refused: kind 2 pair 3 4\n1",
+    ),
+    (
+        REPLAY,
+        &[("a.lit", REPLACE), ("c", "order 1 3 | 4 2\n")],
+        0,
+        "crash refused: kind 3 transaction 3\n1",
+    ),
+    (
+        REPLAY,
+        &[("a.lit", REPLACE), ("c", "order | 1 2 3 4\n")],
+        0,
+        "crash refused: kind 4\n1",
+    ),
+    (
+        REPLAY,
+        &[("a.lit", REPLACE), ("c", "order 1 3 4 2\n")],
+        0,
+        "crash refused: kind 5\n1",
+    ),
+    // The same test and crash under models that keep less, and more.
+    (
+        REPLAY_LOOSE,
+        &[("a.lit", REPLACE), ("c", "order 3 4 | 1 2\n")],
+        0,
+        "crash accepted\n0",
+    ),
+    (
+        REPLAY_FILE,
+        &[
+            ("a.lit", REPLACE),
+            ("m", SOUND_MODEL),
+            ("c", "order 1 3 4 | 2\n"),
+        ],
+        0,
+        "crash refused: kind 2 pair 2 3\n1",
+    ),
+    (
+        REPLAY,
+        &[("a.lit", PROMISE), ("c", "order | 1\n")],
+        0,
+        "crash accepted\n0",
+    ),
+    (
+        REPLAY,
+        &[("a.lit", PROMISE), ("c", "order 1 |\n")],
+        0,
+        "crash refused: kind 4\n1",
+    ),
+    (
+        REPLAY,
+        &[("a.lit", EMPTY), ("c", "order |\n")],
+        0,
+        "crash accepted\n0",
+    ),
+    (
+        REPLAY,
+        &[("a.lit", EMPTY), ("c", "order | 1\n")],
+        0,
+        "crash refused: kind 1\n1",
+    ),
+    // The first step that fails is answered: the crash file is fetched behind all others, and read last.
+    (REPLAY, &[], 0, "not found: litmus\n6"),
+    (
+        REPLAY_FILE,
+        &[("a.lit", BAD_CALL)],
+        0,
+        "not found: model\n6",
+    ),
+    (
+        REPLAY_FILE,
+        &[("a.lit", BAD_CALL), ("m", SOUND_MODEL)],
+        0,
+        "litmus refused: line 3 kind 10\n4",
+    ),
+    (
+        REPLAY_FILE,
+        &[("a.lit", BAD_CALL), ("m", SOUND_MODEL), ("c", "order")],
+        3,
+        "litmus refused: line 3 kind 10\n4",
+    ),
+    (
+        REPLAY_FILE,
+        &[("a.lit", FIRST), ("m", SOUND_MODEL)],
+        0,
+        "not found: crash\n6",
+    ),
+    (
+        REPLAY_FILE,
+        &[("a.lit", FIRST), ("m", SOUND_MODEL), ("c", "order")],
+        3,
+        "read fault: crash\n7",
+    ),
+    (
+        REPLAY,
+        &[("a.lit", FIRST), ("c", "order")],
+        2,
+        "read fault: crash\n7",
+    ),
+];
+
+/// The one crash of a test without events, with so many spaces before its bar.
+fn spaced(alloc: Global, spaces: usize) -> Result<Vec<u8>, AllocError> {
+    let mut text = Vec::from_slice(alloc, b"order")?;
+    for _ in 0..spaces {
+        text.push(b' ')?;
+    }
+    text.push(b'|')?;
+    Ok(text)
+}
+
+#[test]
+fn replays(rt: HostRuntime) -> Result<(), Fail> {
+    let alloc = rt.alloc();
+    for (words, texts, failing, want) in REPLAYS {
+        let mut files = Vec::new(alloc);
+        for (name, text) in *texts {
+            files.push((*name, text.as_bytes()))?;
+        }
+        let answer = written(alloc, words, files.as_slice(), *failing)?;
+        assert_eq!(rt; answer.as_slice(), want.as_bytes());
+    }
+    // Files of 4,096 bytes, and of 4,097.
+    for (spaces, want) in [
+        (4090, "crash accepted\n0"),
+        (4091, "crash refused: kind 5\n1"),
+    ] {
+        let crash = spaced(alloc, spaces)?;
+        let files = [("a.lit", EMPTY.as_bytes()), ("c", crash.as_slice())];
+        let answer = written(alloc, REPLAY, files.as_slice(), 0)?;
+        assert_eq!(rt; answer.as_slice(), want.as_bytes());
+    }
     Ok(())
 }
 
@@ -463,10 +805,18 @@ const LINES: &[(&[&str], &str)] = &[
     (&["check", "a.lit"], USAGE),
     (&["show", "a.lit", "@sequential"], USAGE),
     (&["check", "a.lit", "@ext3"], USAGE),
+    (&["replay", "a.lit", "@ext3", "c"], USAGE),
+    (&["replay", "a.lit", "@loose"], USAGE),
+    (&["replay", "a.lit", "@loose", "c", "--log", "l"], USAGE),
     (&["check", "a.lit", "@sequential", "--log"], USAGE),
     (&["--help"], USAGE),
+    (&["check", "a.lit", "@loose", "--branch", "best"], USAGE),
+    (&["events", "a.lit", "@loose", "--branch", "first"], USAGE),
+    (
+        &["check", "a.lit", "@loose", "--branch", "last"],
+        "not found: litmus\n6",
+    ),
     // These aren't built.
-    (&["check", "a.lit", "@loose"], USAGE),
     (&["check", "a.lit", "@sequential", "--log", "l"], USAGE),
     (&["repair", "a.lit", "@sequential"], USAGE),
     (&["work", "7", "24"], USAGE),

@@ -14,6 +14,8 @@ returns c = record {
         one_trace = c.one_outcome.ensures.one_trace;
         one_call = c.one_outcome.ensures.one_refusal;
         events_or_refused = c.one_outcome.ensures.events_or_refused;
+        one_crash = c.one_crash.ensures;
+        one_judgement = c.one_judgement.ensures;
       })
       c.one_command.ensures.one;
 }

@@ -2,7 +2,6 @@ use Rattle.std.proofs.Common.{ℕ, List, sym, ◌∙◌, subst}
 use Rattle.fer_outside.specs.Causes.{Rose}
 use Rattle.command_line.specs.declared.commands.ModelName.{ModelName}
 use Rattle.command_line.specs.declared.commands.ModelName.TheVariants.{Shipped, File}
-use Rattle.model_library.specs.ShippedModels.{shipped_text}
 use Rattle.ferrite_run.specs.Reading.{IsNoModel, OnModel}
 use Rattle.ferrite_run.specs.Steps.Step.{ends}
 use Rattle.ferrite_run.proofs.Ready.{stops_more, passed_on}

@@ -1,4 +1,4 @@
-use Rattle.std.proofs.Common.{◌≡◌, ℕ, List, sym, subst}
+use Rattle.std.proofs.Common.{ℕ, List, sym, subst}
 use Rattle.fer_outside.specs.Causes.{Rose}
 use Rattle.command_line.specs.declared.commands.Command.{Command}
 use Rattle.ferrite_run.specs.Answers.{IsReply}
@@ -22,3 +22,9 @@ returns-in-Show-clause-replied g c =
     let rose : List ℕ → Type 0 = λ other. Rose (g.L.Library.faults c.args.library.now other) (g.L.Library.faults c.show.new.library other) in
     let P : Command → Type 0 = λ command. Replies (IsReply (g.L.Library.held c.args.library.now) rose command) c.show.result in
     subst P (sym c.in-Show.is) c.show.ensures.answered
+
+pub returns-in-Replay-clause-replied : goal.returns-in-Replay-clause-replied
+returns-in-Replay-clause-replied g c =
+    let rose : List ℕ → Type 0 = λ other. Rose (g.L.Library.faults c.args.library.now other) (g.L.Library.faults c.replay.new.library other) in
+    let P : Command → Type 0 = λ command. Replies (IsReply (g.L.Library.held c.args.library.now) rose command) c.replay.result in
+    subst P (sym c.in-Replay.is) c.replay.ensures.answered

@@ -1,6 +1,7 @@
 use Rattle.std.proofs.Common.{ℕ, ◌∙◌, inr, List, subst, arith}
 use Rattle.fer_outside.specs.Causes.{Rose, Grew}
 use Rattle.ferrite_run.specs.Answers.{IsProperFront}
+use Rattle.ferrite_run.specs.Choices.{choice_words}
 use Rattle.ferrite_run.proofs.Ready.{status_below}
 use Rattle.ferrite_run.proofs.Calm.{answer_calm}
 use Rattle.ferrite_run.proofs.top.run.Goals as goal
@@ -34,7 +35,7 @@ returns-then-write_whole-clause-complete g c = λ calm _.
     let rose : List ℕ → Type 0 = λ name. Rose (g.L.Library.faults c.args.library.now name) (g.L.Library.faults c.answer_words.new.library name) in
     inr (
       answer,
-      answer_calm (g.L.Library.held c.args.library.now) rose c.args.words.now answer calm is,
+      answer_calm (g.L.Library.held c.args.library.now) rose c.args.words.now (choice_words c.args.branchers.items) answer calm is,
       says.stated,
       subst (Grew (g.K.Sink.written c.args.out.now) (g.K.Sink.written c.write_whole.new.out)) (c.as_slice.ensures.value ∙ says.written) c.if-write_whole.ensures.whole,
     )

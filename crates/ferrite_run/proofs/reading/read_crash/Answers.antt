@@ -1,0 +1,9 @@
+use Rattle.std.proofs.Common.{Err, ◌∙◌, ap}
+use Rattle.ferrite_run.specs.Reading.{IsNoCrash}
+use Rattle.ferrite_run.proofs.Ready.{stops_more}
+use Rattle.ferrite_run.proofs.reading.read_crash.Goals as goal
+
+pub returns-in-Err-BadText-clause-unread : goal.returns-in-Err-BadText-clause-unread
+returns-in-Err-BadText-clause-unread c =
+    let unread = c.read.ensures.unread (c.in-Err-BadText.is ∙ ap Err c.in-Err-BadText.field-0-is) in
+    stops_more _ (IsNoCrash c.args.bytes.now) c.stopped.result (λ a e. (unread, e)) c.stopped.ensures.stopped
