@@ -1,6 +1,6 @@
 //! Prints how many variables, clauses and literals the coding of a test's question has, where no pair is kept. A benchmark
-//! runs it over the largest questions, as no command codes one yet. It stands on `predicate_coding` and on what reads a
-//! test and makes its events.
+//! runs it over the largest questions, since no command codes one without a search. It stands on `predicate_coding` and on
+//! what reads a test and makes its events.
 #![tactic(auto)]
 
 use call_events::resolve;
