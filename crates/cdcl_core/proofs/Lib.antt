@@ -9,3 +9,4 @@ pub mod Ending
 pub mod Adding
 pub mod Blaming
 pub mod Opening
+pub mod Pacing

@@ -3,3 +3,4 @@ pub mod Numbers
 pub mod Search
 pub mod Steps
 pub mod Blame
+pub mod Luby
