@@ -1,0 +1,43 @@
+use super::written;
+use std::test::Fail;
+
+/// The usage line.
+const USAGE: &str =
+    "usage: ferrite check L M | repair L M | verify L M F | replay L M C | events L M | show L | models | work SEED CALLS | explain L M | hint L M F G | trim L M F G | flush L M SEED W\n3";
+
+/// Words, what is written for them over a library that holds nothing, and the status.
+const LINES: &[(&[&str], &str)] = &[
+    (&[], USAGE),
+    (&["check", "a.lit"], USAGE),
+    (&["show", "a.lit", "@sequential"], USAGE),
+    (&["check", "a.lit", "@ext3"], USAGE),
+    (&["replay", "a.lit", "@ext3", "c"], USAGE),
+    (&["replay", "a.lit", "@loose"], USAGE),
+    (&["replay", "a.lit", "@loose", "c", "--log", "l"], USAGE),
+    (&["check", "a.lit", "@sequential", "--log"], USAGE),
+    (&["--help"], USAGE),
+    (&["check", "a.lit", "@loose", "--branch", "best"], USAGE),
+    (&["events", "a.lit", "@loose", "--branch", "first"], USAGE),
+    (
+        &["check", "a.lit", "@loose", "--branch", "last"],
+        "not found: litmus\n6",
+    ),
+    // These aren't built.
+    (&["check", "a.lit", "@sequential", "--log", "l"], USAGE),
+    (&["repair", "a.lit", "@sequential"], USAGE),
+    (&["work", "7", "24"], USAGE),
+    (
+        &["models"],
+        "model sequential\nkeep po\nend\nmodel ext4like\nlet names = [link unlink]\nlet meta = [extend trunc attr]\nkeep po & block\nkeep meta ; (po & file) ; meta\nkeep [write] ; (po & file) ; [extend trunc]\nkeep names ; (po & dir) ; names\nkeep [write extend trunc attr] ; (po & file) ; [fsync]\nkeep names ; (po & dir) ; [fsyncdir]\nkeep po ; [sync]\nkeep [fsync fsyncdir sync mark] ; po\nend\nmodel loose\nkeep po ; [sync]\nkeep [sync] ; po\nend\n0",
+    ),
+    (&["show", "a.lit"], "not found: litmus\n6"),
+];
+
+#[test]
+fn lines(rt: HostRuntime) -> Result<(), Fail> {
+    for (words, want) in LINES {
+        let answer = written(rt.alloc(), words, &[], 0)?;
+        assert_eq!(rt; answer.as_slice(), want.as_bytes());
+    }
+    Ok(())
+}
