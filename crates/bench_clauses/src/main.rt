@@ -1,7 +1,7 @@
 //! Makes the clauses that benchmarks measure, and answers them with the solver, writes them for another solver in the form
 //! that all read, or prints how many they are. A benchmark runs it over large ones. The words say what to do (`solve`,
-//! `write` or `count`) and which clauses: `random`, `pigeons` or `order` with a size, or `question` with a test and a
-//! model, as `check` takes them. It stands on `cdcl_core`, the branching rules, and all that codes a question.
+//! `write` or `count`) and which clauses: `random`, `pigeons` or `order` with a size from 3 to 1,000, or `question` with a
+//! test and a model, as `check` takes them. It stands on `cdcl_core`, the branching rules, and all that codes a question.
 #![tactic(auto)]
 
 use branch_rules::{Activity, Brancher};
@@ -74,6 +74,9 @@ fn made(
         return questions::question(rt, word, model?);
     }
     let size = word.parse::<u32>().ok()?;
+    if size < 3 || size > families::MOST_SIZE {
+        return None;
+    }
     let store = match kind {
         "random" => families::random(rt.alloc(), size),
         "pigeons" => families::pigeons(rt.alloc(), size),

@@ -1,7 +1,7 @@
 -- Private: after how many conflicts a search starts anew. Only the contracts of private functions cite it.
 use Rattle.std.specs.Prelude.{ℕ, List, [], ◌∷◌, ◌++◌, zero, suc, ◌^◌, slice_index_or}
 
--- a turn of Luby's sequence: the turn before twice, and then a number twice as large as its greatest
+-- a turn of Luby's sequence: the turn before twice, and then the next power of 2
 unfoldable pub luby_turn : ℕ → List ℕ
 luby_turn zero = []
 luby_turn (suc k) = luby_turn k ++ luby_turn k ++ 2 ^ k ∷ []
