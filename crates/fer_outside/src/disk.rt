@@ -2,7 +2,7 @@ ghost use Rattle.std.specs.Prelude.{◌≡◌, ℕ, List, ◌+◌, ◌<◌, ◌�
 ghost use Rattle.std.specs.Io.KnownBytes.{Consumes};
 ghost use Rattle.fer_outside.specs.Causes.{one_more};
 
-use crate::library::{FetchError, Library};
+use crate::library::{FetchError, KeepError, Library};
 use std::alloc::Global;
 use std::fs;
 use std::io::{ErrorKind, Read};
@@ -32,6 +32,14 @@ impl<'a, R: Files> DiskLibrary<'a, R> {
     {
         DiskLibrary { rt, faults: 0 }
     }
+
+    /// Counts one fault more.
+    fn count_fault(&mut self)
+        ensures counted { self.new ≡ one_more self.old }
+        ensures rises { self.old ≤ self.new }
+    {
+        self.faults = self.faults.saturating_add(1);
+    }
 }
 
 impl<R: Files> Library for DiskLibrary<'_, R> {
@@ -52,9 +60,23 @@ impl<R: Files> Library for DiskLibrary<'_, R> {
     {
         let fetched = read_file(self.rt, alloc, name, limit);
         if let Err(FetchError::Missing | FetchError::Failed) = &fetched {
-            self.faults = self.faults.saturating_add(1);
+            self.count_fault();
         }
         fetched
+    }
+
+    /// Makes the file if there is none. Every refusal of the system is a fault.
+    fn keep(&mut self, _alloc: Global, name: &str, bytes: &[u8]) -> Result<(), KeepError>
+        ensures ok { OnOk result (self.new ≡ self.old) }
+        ensures cause { IsErrOf result KeepError.Failed → self.new ≡ one_more self.old }
+        ensures sufficed { ¬ IsErrOf result KeepError.OutOfMemory }
+        ensures rises { self.old ≤ self.new }
+    {
+        if fs::write(self.rt, name, bytes).is_err() {
+            self.count_fault();
+            return Err(KeepError::Failed);
+        }
+        Ok(())
     }
 }
 

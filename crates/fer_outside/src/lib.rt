@@ -18,7 +18,7 @@ mod sure_library;
 mod sure_sink;
 
 pub use disk::DiskLibrary;
-pub use library::{FetchError, Library};
+pub use library::{FetchError, KeepError, Library};
 pub use mem_library::MemLibrary;
 pub use mem_sink::MemSink;
 pub use sink::{Failed, Sink};

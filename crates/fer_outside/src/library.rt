@@ -1,6 +1,6 @@
-ghost use Rattle.std.specs.Prelude.{◌≡◌, ℕ, ◌≤◌, List, Option, IfOk, IsErrOf, length};
+ghost use Rattle.std.specs.Prelude.{◌≡◌, ℕ, ◌≤◌, List, Option, IfOk, OnOk, IsErrOf, length};
 ghost use Rattle.fer_outside.specs.Held.{Held};
-ghost use Rattle.fer_outside.specs.Causes.{Rose, IsHeld, IsMissing, IsTooLong};
+ghost use Rattle.fer_outside.specs.Causes.{Rose, IsHeld, IsMissing, IsTooLong, Keeps, IsOpenAt};
 
 use std::alloc::Global;
 use thiserror::Error;
@@ -16,6 +16,17 @@ pub enum FetchError {
     TooLong,
     /// The library met a fault, and counted it.
     #[error("reading failed")]
+    Failed,
+    /// Memory was refused.
+    #[error("out of memory")]
+    OutOfMemory,
+}
+
+/// Why bytes weren't kept.
+#[derive(Clone, Copy, Debug, PartialEq, Eq, Error)]
+pub enum KeepError {
+    /// The library met a fault, and counted it.
+    #[error("writing failed")]
     Failed,
     /// Memory was refused.
     #[error("out of memory")]
@@ -51,4 +62,16 @@ pub trait Library {
             Rose (faults self.old name.now) (faults self.new name.now) }
         ensures never_falls { (other : List ℕ) → faults self.old other ≤ faults self.new other }
         ensures stays { held self.new ≡ held self.old };
+
+    /// Makes `name` hold exactly these bytes. All other names hold what they held.
+    ///
+    /// - `Failed`: the count of faults of `name` rose in this call, and what is held under `name` is open.
+    /// - `OutOfMemory`: memory was refused, and what is held stays.
+    fn keep(&mut self, alloc: Global, name: &str, bytes: &[u8]) -> Result<(), KeepError>
+        ensures kept { OnOk result (Keeps (held self.old) (held self.new) name.now bytes.now) }
+        ensures cause { IsErrOf result KeepError.Failed →
+            Rose (faults self.old name.now) (faults self.new name.now) }
+        ensures others { IsErrOf result KeepError.Failed → IsOpenAt (held self.old) (held self.new) name.now }
+        ensures unkept { IsErrOf result KeepError.OutOfMemory → held self.new ≡ held self.old }
+        ensures rises { (other : List ℕ) → faults self.old other ≤ faults self.new other };
 }

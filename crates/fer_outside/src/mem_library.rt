@@ -3,12 +3,12 @@ ghost use Rattle.fer_outside.specs.Held.{HoldsMore, held_under, nothing_held, wi
 ghost use Rattle.fer_outside.specs.Calls.{IsToFail, no_calls, with_failing, after_success, after_failure};
 
 use crate::calls::CallPlan;
-use crate::library::{FetchError, Library};
+use crate::library::{FetchError, KeepError, Library};
 use crate::shelf::Shelf;
 use std::alloc::{AllocError, Global};
 use std::marker::Model;
 
-/// A library in memory, of which chosen calls fail.
+/// A library in memory, of which chosen calls fail. Its calls of `fetch` and `keep` are counted together.
 #[derive(Debug, Drop)]
 pub struct MemLibrary {
     shelf: Shelf,
@@ -80,5 +80,25 @@ impl Library for MemLibrary {
         }
         self.plan.count_success();
         self.shelf.fetch(alloc, name, limit)
+    }
+
+    /// Fails exactly where the number of this call is in the list of the calls that are to fail; then the name holds what
+    /// it held.
+    fn keep(&mut self, _alloc: Global, name: &str, bytes: &[u8]) -> Result<(), KeepError>
+        ensures failed { IsErrOf result KeepError.Failed ↔ IsToFail self.old.calls }
+        ensures failure { IsErrOf result KeepError.Failed →
+            self.new ≡ record self.old { calls = after_failure self.old.calls } }
+        ensures refused { IsErrOf result KeepError.OutOfMemory →
+            self.new ≡ record self.old { calls = after_success self.old.calls } }
+        ensures success { OnOk result
+            (self.new ≡ record { held = with_held self.old.held name.now bytes.now; calls = after_success self.old.calls }) }
+        ensures never_falls { self.old.calls.failed ≤ self.new.calls.failed }
+    {
+        if self.plan.is_to_fail() {
+            self.plan.count_failure();
+            return Err(KeepError::Failed);
+        }
+        self.plan.count_success();
+        self.shelf.keep(name, bytes)
     }
 }

@@ -1,7 +1,7 @@
 ghost use Rattle.std.specs.Prelude.{◌≡◌, ◌≤◌, Some, None, IfOk, IsErrOf, OnOk, OnErr, option_map, length};
 ghost use Rattle.fer_outside.specs.Held.{HoldsMore, held_under, nothing_held, with_held};
 
-use crate::library::FetchError;
+use crate::library::{FetchError, KeepError};
 use fer_list::Seq;
 use std::alloc::{AllocError, Global};
 use std::collections::VecDeque;
@@ -45,6 +45,18 @@ impl Shelf {
         let bytes = Seq::from_slice(self.alloc, bytes)?;
         self.entries.push_front((name, bytes))?;
         Ok(())
+    }
+
+    /// The same as `put`, as a library answers it.
+    pub fn keep(&mut self, name: &str, bytes: &[u8]) -> Result<(), KeepError>
+        ensures ok { OnOk result (self.new ≡ with_held self.old name.now bytes.now) }
+        ensures err { OnErr result (self.new ≡ self.old) }
+        ensures never_failed { ¬ IsErrOf result KeepError.Failed }
+    {
+        match self.put(name, bytes) {
+            Ok(()) => Ok(()),
+            Err(_) => Err(KeepError::OutOfMemory),
+        }
     }
 
     /// What is held under the name.

@@ -1,7 +1,7 @@
 ghost use Rattle.std.specs.Prelude.{◌≡◌, Some, OnOk, OnErr};
 ghost use Rattle.fer_outside.specs.Held.{nothing_held, with_held};
 
-use crate::library::{FetchError, Library};
+use crate::library::{FetchError, KeepError, Library};
 use crate::shelf::Shelf;
 use std::alloc::{AllocError, Global};
 use std::marker::Model;
@@ -50,5 +50,9 @@ impl Library for SureLibrary {
 
     fn fetch(&mut self, alloc: Global, name: &str, limit: usize) -> Result<Vec<u8>, FetchError> {
         self.shelf.fetch(alloc, name, limit)
+    }
+
+    fn keep(&mut self, _alloc: Global, name: &str, bytes: &[u8]) -> Result<(), KeepError> {
+        self.shelf.keep(name, bytes)
     }
 }

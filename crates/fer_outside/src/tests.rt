@@ -26,6 +26,17 @@ fn expect_fetch<L: Library>(
     assert!(rt; answer == wanted.as_bytes(), "{name} within {limit}");
 }
 
+/// Ends the test unless these bytes are kept or, where `wanted` says so, aren't.
+fn expect_keep<L: Library>(
+    rt: &impl Abort,
+    alloc: Global,
+    library: &mut L,
+    (name, text, wanted): (&str, &str, bool),
+) {
+    let kept = library.keep(alloc, name, text.as_bytes());
+    assert_eq!(rt; kept.is_ok(), wanted, "{text} under {name}");
+}
+
 /// Ends the test unless a write of these bytes takes so many of them, where 0 stands for a failed write.
 fn expect_write<K: Sink>(rt: &impl Abort, sink: &mut K, (text, wanted): (&str, usize)) {
     if !text.is_empty() {
@@ -42,6 +53,7 @@ fn libraries_in_memory(rt: HostRuntime) -> Result<(), Fail> {
     library.put("empty", b"")?;
     library.fail_at(2)?;
     library.fail_at(7)?;
+    library.fail_at(10)?;
     for row in [
         ("a", 4, "four"),
         ("a", 4, "Failed"),
@@ -54,6 +66,16 @@ fn libraries_in_memory(rt: HostRuntime) -> Result<(), Fail> {
     ] {
         expect_fetch(&rt, rt.alloc(), &mut library, row);
     }
+    for row in [
+        ("a", "newer", true),
+        ("a", "newest", false),
+        ("b", "", true),
+    ] {
+        expect_keep(&rt, rt.alloc(), &mut library, row);
+    }
+    for row in [("a", 5, "newer"), ("b", 0, ""), ("empty", 0, "")] {
+        expect_fetch(&rt, rt.alloc(), &mut library, row);
+    }
     Ok(())
 }
 
@@ -62,7 +84,13 @@ fn a_sure_library(rt: HostRuntime) -> Result<(), Fail> {
     let mut library = SureLibrary::new(rt.alloc());
     library.put("a", b"older")?;
     library.put("a", b"four")?;
-    for row in [("a", 4, "four"), ("a", 3, "TooLong"), ("b", 4, "Missing")] {
+    expect_keep(&rt, rt.alloc(), &mut library, ("c", "kept", true));
+    for row in [
+        ("a", 4, "four"),
+        ("a", 3, "TooLong"),
+        ("b", 4, "Missing"),
+        ("c", 4, "kept"),
+    ] {
         expect_fetch(&rt, rt.alloc(), &mut library, row);
     }
     Ok(())
@@ -102,7 +130,20 @@ fn files_on_disk(rt: HostRuntime) -> Result<(), Fail> {
     ] {
         expect_fetch(&rt, rt.alloc(), &mut library, row);
     }
+    for row in [
+        ("short.lit", "of six", true),
+        ("new.log", "0\nend\n", true),
+        ("new.log", "end\n", true),
+        ("short.lit/below", "lost", false),
+        (".", "lost", false),
+    ] {
+        expect_keep(&rt, rt.alloc(), &mut library, row);
+    }
+    for row in [("short.lit", 6, "of six"), ("new.log", 4, "end\n")] {
+        expect_fetch(&rt, rt.alloc(), &mut library, row);
+    }
     fs::remove_file(&rt, "short.lit")?;
+    fs::remove_file(&rt, "new.log")?;
     Ok(())
 }
 

@@ -1,5 +1,5 @@
--- What `fetch` ensures of the count of faults gives what every library promises. Of what is held nothing is told.
-use Rattle.std.proofs.Common.{Ok, Err, IfOk, arith, refl}
+-- What `fetch` and `keep` ensure of the count of faults gives what every library promises. Of what is held nothing is told.
+use Rattle.std.proofs.Common.{Ok, Err, IfOk, OnOk, arith, refl}
 use Rattle.fer_outside.proofs.disk.DiskLibraryLibrary.TheImpl.Goals as goal
 
 pub fetch-tells : goal.fetch-tells
@@ -11,4 +11,13 @@ fetch-tells g c = record {
   failed = λ is. let counted = c.ensures.failed is in omega arith;
   never_falls = λ other. c.ensures.never_falls;
   stays = refl;
+}
+
+pub keep-tells : goal.keep-tells
+keep-tells g c = record {
+  kept = elim c.result as (λ r. OnOk r _) [ Ok _ ↦ refl | Err e ↦ tt ];
+  cause = λ is. let counted = c.ensures.cause is in omega arith;
+  others = λ is. tt;
+  unkept = λ is. refl;
+  rises = λ other. c.ensures.rises;
 }
