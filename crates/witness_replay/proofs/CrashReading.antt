@@ -7,11 +7,14 @@ use Rattle.std.specs.Str.Parse.{AllDigits}
 use Rattle.std.proofs.lemmas.List.{append_assoc, append-nil, append_cancel_left, length-append}
 use Rattle.text_scan.specs.Lines.{lines_of, feed_is_first}
 use Rattle.fer_events.specs.declared.event.Crash.{Crash}
-use Rattle.witness_replay.specs.CrashFiles.{AreSpaces, IsDecimal, AreNumbers, IsCrashLine, IsLineOf, IsCrashText}
+use Rattle.numerals.specs.Numbers.{IsDecimal}
+use Rattle.witness_replay.specs.CrashFiles.{AreSpaces, AreNumbers, IsCrashLine, IsLineOf, IsCrashText}
 use Rattle.witness_replay.specs.CrashFiles.AreNumbers.{none, more}
-use Rattle.witness_replay.specs.Spans.{is_space, is_decimal_digit, StartsNot, IsSpan, BeginsNumber, HasNumbers, BeginsNumbers, BeginsBar}
-use Rattle.witness_replay.proofs.GeneralSpans.{one_span}
-use Rattle.witness_replay.proofs.CrashNumbers.{spaces_pass, digits_pass, digits_start, spaces_start, numbers_start, one_reading, number_shorter}
+use Rattle.numerals.specs.Spans.{is_decimal_digit, StartsNot, IsSpan}
+use Rattle.witness_replay.specs.Spans.{is_space, BeginsNumber, HasNumbers, BeginsNumbers, BeginsBar}
+use Rattle.numerals.proofs.GeneralSpans.{one_span}
+use Rattle.numerals.proofs.Digits.{digits_pass}
+use Rattle.witness_replay.proofs.CrashNumbers.{spaces_pass, digits_start, spaces_start, numbers_start, one_reading, number_shorter}
 
 -- what the spans of a number are
 pub number_span : (bytes front back : List ℕ) (n : ℕ) (rest : List ℕ) → IsSpan is_space bytes front back → BeginsNumber bytes n rest

@@ -1,6 +1,5 @@
 pub mod CrashNumbers
 pub mod CrashReading
-pub mod GeneralSpans
 pub mod Judgements
 pub mod Parting
 pub mod Permutes

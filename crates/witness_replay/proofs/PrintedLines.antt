@@ -16,47 +16,9 @@ use Rattle.fer_events.specs.declared.event.Crash.{Crash}
 use Rattle.order_coding.proofs.GeneralLists.{All-left, All-right}
 use Rattle.witness_replay.specs.CrashFiles.{AreSpaces, AreNumbers, IsCrashLine, IsCrashText}
 use Rattle.witness_replay.specs.CrashFiles.AreNumbers.{none, more}
-use Rattle.witness_replay.specs.CrashLines.{numbers_text, crash_line}
-
--- no byte is a control character
-abbrev Visible : List ℕ → Type 0
-Visible bytes = list_all (λ b. leb 32 b) bytes ≡ true
-
-no_feed : (b : ℕ) → leb 32 b ≡ true → eqb b 10 ≡ false
-no_feed b told = grind (arith, nat_tests)
-
-no_return : (b : ℕ) → leb 32 b ≡ true → eqb b 13 ≡ false
-no_return b told = grind (arith, nat_tests)
-
--- a line of visible bytes ends at its line feed
-cut_line : (line rest : List ℕ) → Visible line → lines_of (line ++ 10 ∷ rest) ≡ line ∷ lines_of rest
-cut_line [] rest seen = refl
-cut_line (b ∷ bs) rest seen =
-    let parts = and_parts (leb 32 b) (list_all (λ b. leb 32 b) bs) seen in
-    let others : List ℕ = bs ++ 10 ∷ rest in
-    ap (λ (t : Bool). cond t ([] ∷ lines_of others) (cond (eqb b 13 && feed_is_first others) (lines_of others) (onto_first b (lines_of others)))) (no_feed b parts.0)
-    ∙ ap (λ (t : Bool). cond (t && feed_is_first others) (lines_of others) (onto_first b (lines_of others))) (no_return b parts.0)
-    ∙ ap (onto_first b) (cut_line bs rest parts.1)
-
-seen_both : (xs ys : List ℕ) → Visible xs → Visible ys → Visible (xs ++ ys)
-seen_both xs ys x y = list_all-append (λ b. leb 32 b) xs ys ∙ and_from (list_all (λ b. leb 32 b) xs) (list_all (λ b. leb 32 b) ys) x y
-
-seen_digits : (digits : List ℕ) → AllDigits 10 digits → Visible digits
-seen_digits [] all = refl
-seen_digits (d ∷ ds) all =
-    let range = digit_from_value d all.0 in
-    let here : leb 32 d ≡ true = grind (arith, nat_tests) in
-    and_from (leb 32 d) (list_all (λ b. leb 32 b) ds) here (seen_digits ds all.1)
-
-abbrev Narrow : List ℕ → Type 0
-Narrow ns = All (λ n. n ≤ 4294967295) ns
-
-seen_numbers : (ns : List ℕ) → Narrow ns → Visible (numbers_text ns)
-seen_numbers [] narrow = refl
-seen_numbers (n ∷ ns) narrow =
-    let small : n < 2 ^ 64 = omega (arith, All-head (λ n. n ≤ 4294967295) n ns narrow) in
-    subst Visible (sym (flat_map-cons (λ n. 32 ∷ decimal n) n ns))
-    (seen_both (32 ∷ decimal n) (numbers_text ns) (seen_digits (decimal n) (decimal_is_IsNumeral n small).0.1) (seen_numbers ns (All-tail (λ n. n ≤ 4294967295) n ns narrow)))
+use Rattle.numerals.specs.Numbers.{numbers_text}
+use Rattle.numerals.proofs.VisibleLines.{Visible, cut_line, seen_both, Narrow, seen_numbers}
+use Rattle.witness_replay.specs.CrashLines.{crash_line}
 
 one_space : AreSpaces (32 ∷ [])
 one_space = (omega arith, All-cons (λ b. b ≡ 32) 32 [] refl (All-nil (λ b. b ≡ 32)))

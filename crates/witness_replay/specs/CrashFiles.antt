@@ -1,17 +1,13 @@
 -- Which bytes are a crash file, and of which crash. People may write such a file, with more spaces and zeros than Ferrite
 -- prints.
 use Rattle.std.specs.Prelude.{◌≡◌, ◌⊎◌, ℕ, ◌<◌, ◌≤◌, List, [], ◌∷◌, ◌++◌, length, All, codes}
-use Rattle.std.specs.Str.Parse.{IsNumeral, digits_value}
 use Rattle.text_scan.specs.Lines.{lines_of}
+use Rattle.numerals.specs.Numbers.{IsDecimal}
 use Rattle.fer_events.specs.declared.event.Crash.{Crash}
 
 -- one or more spaces
 abbrev pub AreSpaces : List ℕ → Type 0
 AreSpaces bytes = (0 < length bytes) × All (λ b. b ≡ 32) bytes
-
--- decimal digits, leading zeros allowed, of a number that is at most 2^32 - 1
-abbrev pub IsDecimal : List ℕ → ℕ → Type 0
-IsDecimal digits n = IsNumeral 10 digits × (digits_value 10 digits ≡ n) × (n ≤ 4294967295)
 
 -- numbers, each with spaces before it
 pub data AreNumbers : List ℕ → List ℕ → Type 0 where

@@ -1,11 +1,7 @@
 -- The line of a crash, which anyone can read, write and have judged.
-use Rattle.std.specs.Prelude.{ℕ, List, ◌∷◌, ◌++◌, take, drop, decimal, codes}
-use Rattle.std.specs.List.{flat_map}
+use Rattle.std.specs.Prelude.{ℕ, List, ◌++◌, take, drop, codes}
+use Rattle.numerals.specs.Numbers.{numbers_text}
 use Rattle.fer_events.specs.declared.event.Crash.{Crash}
-
--- each number with a space before it
-abbrev pub numbers_text : List ℕ → List ℕ
-numbers_text ns = flat_map (λ n. 32 ∷ decimal n) ns
 
 -- the line of a crash: the order of the events, with a bar at the cut
 abbrev pub crash_line : Crash → List ℕ

@@ -1,24 +1,12 @@
 -- Private: how the reader of crash files goes through a line.
-use Rattle.std.specs.Prelude.{◌≡◌, ◌==◌, ℕ, Bool, true, false, List, ◌∷◌, ◌++◌, All, nat_lt}
-use Rattle.std.specs.Char.{digit_value}
-use Rattle.witness_replay.specs.CrashFiles.{AreSpaces, IsDecimal, AreNumbers}
+use Rattle.std.specs.Prelude.{◌≡◌, ◌==◌, ℕ, Bool, List, ◌∷◌, ◌++◌}
+use Rattle.numerals.specs.Numbers.{IsDecimal}
+use Rattle.numerals.specs.Spans.{is_decimal_digit, StartsNot}
+use Rattle.witness_replay.specs.CrashFiles.{AreSpaces, AreNumbers}
 
--- which bytes are spaces, and which are decimal digits
+-- which bytes are spaces
 abbrev pub is_space : ℕ → Bool
 is_space b = b == 32
-
-abbrev pub is_decimal_digit : ℕ → Bool
-is_decimal_digit b = nat_lt (digit_value b) 10
-
--- the first byte, if there is one, doesn't pass the test
-abbrev pub StartsNot : (ℕ → Bool) → List ℕ → Type 0
-StartsNot test bytes = (b : ℕ) (bs : List ℕ) → bytes ≡ b ∷ bs → test b ≡ false
-
--- the bytes begin with these that pass the test, and then with none
-pub record IsSpan (test : ℕ → Bool) (bytes front back : List ℕ) : Type 0 where
-  pub spelled : bytes ≡ front ++ back
-  pub passes : All (λ b. test b ≡ true) front
-  pub ends : StartsNot test back
 
 -- the bytes begin with spaces and a number, behind which there is no digit
 pub record BeginsNumber (bytes : List ℕ) (n : ℕ) (rest : List ℕ) : Type 0 where

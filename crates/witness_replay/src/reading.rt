@@ -1,21 +1,20 @@
-ghost use Rattle.std.specs.Prelude.{◌≡◌, ◌≢◌, ◌⊎◌, ℕ, true, not, [], ◌∷◌, ◌++◌, ◌≤◌, List, All, IfOk, OnOk, IsErrOf, MatchOption, length, position, codes};
+ghost use Rattle.std.specs.Prelude.{◌≡◌, ◌≢◌, ◌⊎◌, ℕ, not, [], ◌∷◌, ◌++◌, ◌≤◌, List, IfOk, OnOk, IsErrOf, MatchOption, length, position, codes};
 ghost use Rattle.text_scan.specs.Lines.{lines_of};
 ghost use Rattle.fer_events.specs.declared.event.Crash.{Crash as CrashOf};
 ghost use Rattle.witness_replay.specs.declared.judgement.CrashFault.TheVariants.{BadText};
-ghost use Rattle.witness_replay.specs.CrashFiles.{IsDecimal, IsCrashLine, IsLineOf, IsCrashText};
-ghost use Rattle.witness_replay.specs.Spans.{is_space, is_decimal_digit, IsSpan, BeginsNumber, BeginsNumbers, BeginsBar};
+ghost use Rattle.witness_replay.specs.CrashFiles.{IsCrashLine, IsLineOf, IsCrashText};
+ghost use Rattle.numerals.specs.Spans.{IsSpan};
+ghost use Rattle.witness_replay.specs.Spans.{is_space, BeginsNumber, BeginsNumbers, BeginsBar};
 
 use crate::judgement::CrashFault;
 use fer_events::Crash;
 use fer_list::Seq;
+use numerals::{number_of, split_digits};
 use std::alloc::{AllocError, Global};
 use text_scan::first_line;
 
 /// The most bytes of a crash file.
 pub const MOST_CRASH_BYTES: usize = 4096;
-
-/// The least number that 32 bits don't hold.
-const WIDE: u64 = 1 << 32;
 
 /// The place of the first byte that is no space.
 fn first_no_space(bytes: &[u8]) -> Option<usize>
@@ -29,39 +28,6 @@ fn split_spaces(bytes: &[u8]) -> (&[u8], &[u8])
     ensures { IsSpan is_space bytes.now result.0.now result.1.now }
 {
     bytes.split_at(first_no_space(bytes).unwrap_or(bytes.len()))
-}
-
-/// The place of the first byte that is no decimal digit.
-fn first_no_digit(bytes: &[u8]) -> Option<usize>
-    ensures { result ≡ position (λ b. not (is_decimal_digit b)) bytes.now }
-{
-    bytes.iter().position(|byte| !byte.is_ascii_digit())
-}
-
-/// The decimal digits at the front, and what stands behind them.
-fn split_digits(bytes: &[u8]) -> (&[u8], &[u8])
-    ensures { IsSpan is_decimal_digit bytes.now result.0.now result.1.now }
-{
-    bytes.split_at(first_no_digit(bytes).unwrap_or(bytes.len()))
-}
-
-/// The number that the digits write; nothing where there are no digits, or the number is above 2^32 - 1.
-fn number_of(digits: &[u8]) -> Option<u32>
-    requires { All (λ b. is_decimal_digit b ≡ true) digits.now }
-    ensures { MatchOption result ((n : ℕ) → IsDecimal digits.now n → ⊥) (λ n. IsDecimal digits.now n) }
-{
-    if digits.is_empty() {
-        return None;
-    }
-    let mut value = 0;
-    for digit in digits {
-        let next = 10 * value + u64::from(*digit - b'0');
-        value = next.min(WIDE);
-    }
-    if value == WIDE {
-        return None;
-    }
-    Some(value as u32)
 }
 
 /// The number that stands behind spaces at the front, and what stands behind it.

@@ -1,6 +1,6 @@
 use Rattle.std.proofs.Common.{ℕ, List, ◌++◌, length, sym, ◌∙◌, ap, arith}
 use Rattle.std.proofs.lemmas.Bool.{eqb-true}
-use Rattle.witness_replay.proofs.CrashNumbers.{not_zero}
+use Rattle.numerals.proofs.Digits.{not_zero}
 use Rattle.witness_replay.proofs.CrashReading.{no_bar, no_end, line_is, few_read}
 use Rattle.witness_replay.proofs.reading.crash_of_line.Goals as goal
 

@@ -1,7 +1,7 @@
 use Rattle.std.proofs.Common.{ℕ, Option, length, ◌∙◌, ap}
 use Rattle.std.specs.Prelude.{unwrap_or}
 use Rattle.witness_replay.specs.Spans.{is_space}
-use Rattle.witness_replay.proofs.GeneralSpans.{span_by}
+use Rattle.numerals.proofs.GeneralSpans.{span_by}
 use Rattle.witness_replay.proofs.reading.split_spaces.Goals as goal
 
 pub returns : goal.returns

@@ -6,8 +6,11 @@ use Rattle.std.proofs.lemmas.Bool.Decides.{nat_tests}
 use Rattle.std.proofs.lemmas.List.{take-append-drop}
 use Rattle.std.proofs.lemmas.List.Elements.{All-nil, All-cons, All-head, All-tail}
 use Rattle.std.proofs.lemmas.List.Recursion.{is_position_or_len}
-use Rattle.order_coding.proofs.GeneralLists.{bit_cases, true_false}
-use Rattle.witness_replay.specs.Spans.{StartsNot, IsSpan}
+use Rattle.std.proofs.lemmas.Bool.{cases_Bool}
+use Rattle.numerals.specs.Spans.{StartsNot, IsSpan}
+
+true_false : {A : Type 0} (b : Bool) → b ≡ true → b ≡ false → A
+true_false b t f = let bad : true ≡ false = sym t ∙ f in cc
 
 module _ (test : ℕ → Bool) where
   -- how many of the first pass
@@ -23,7 +26,7 @@ module _ (test : ℕ → Bool) where
 
   run_within : (xs : List ℕ) → run xs ≤ length xs
   run_within [] = omega arith
-  run_within (x ∷ xs) = elim (bit_cases (test x)) [
+  run_within (x ∷ xs) = elim (cases_Bool (test x)) [
     | inl t ↦ omega (arith, run_more x xs t, run_within xs)
     | inr f ↦ omega (arith, run_ends x xs f)
   ]
@@ -36,14 +39,14 @@ module _ (test : ℕ → Bool) where
 
   run_passes : (xs : List ℕ) → All (λ b. test b ≡ true) (take (run xs) xs)
   run_passes [] = All-nil (λ b. test b ≡ true)
-  run_passes (x ∷ xs) = elim (bit_cases (test x)) [
+  run_passes (x ∷ xs) = elim (cases_Bool (test x)) [
     | inl t ↦ subst (λ (k : ℕ). All (λ b. test b ≡ true) (take k (x ∷ xs))) (sym (run_more x xs t)) (All-cons (λ b. test b ≡ true) x (take (run xs) xs) t (run_passes xs))
     | inr f ↦ subst (λ (k : ℕ). All (λ b. test b ≡ true) (take k (x ∷ xs))) (sym (run_ends x xs f)) (All-nil (λ b. test b ≡ true))
   ]
 
   run_stops : (xs : List ℕ) → StartsNot test (drop (run xs) xs)
   run_stops [] = λ b bs e. absurd cc
-  run_stops (x ∷ xs) = elim (bit_cases (test x)) [
+  run_stops (x ∷ xs) = elim (cases_Bool (test x)) [
     | inl t ↦ subst (λ (k : ℕ). StartsNot test (drop k (x ∷ xs))) (sym (run_more x xs t)) (run_stops xs)
     | inr f ↦ subst (λ (k : ℕ). StartsNot test (drop k (x ∷ xs))) (sym (run_ends x xs f)) (λ b bs e. let same : x ≡ b = cc in sym (ap test same) ∙ f)
   ]

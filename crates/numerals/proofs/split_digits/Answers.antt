@@ -1,8 +1,8 @@
 use Rattle.std.proofs.Common.{ℕ, Option, length, ◌∙◌, ap}
 use Rattle.std.specs.Prelude.{unwrap_or}
-use Rattle.witness_replay.specs.Spans.{is_decimal_digit}
-use Rattle.witness_replay.proofs.GeneralSpans.{span_by}
-use Rattle.witness_replay.proofs.reading.split_digits.Goals as goal
+use Rattle.numerals.specs.Spans.{is_decimal_digit}
+use Rattle.numerals.proofs.GeneralSpans.{span_by}
+use Rattle.numerals.proofs.split_digits.Goals as goal
 
 pub returns : goal.returns
 returns c =

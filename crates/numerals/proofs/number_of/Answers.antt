@@ -1,8 +1,8 @@
 use Rattle.std.proofs.Common.{ℕ, length, min, ◌+◌, ◌*◌, sym, ◌∙◌, ap, arith}
 use Rattle.std.specs.Str.Parse.{digits_value}
 use Rattle.std.proofs.lemmas.List.{take_all}
-use Rattle.witness_replay.proofs.CrashNumbers.{value_more, not_zero, passed_are_digits}
-use Rattle.witness_replay.proofs.reading.number_of.Goals as goal
+use Rattle.numerals.proofs.Digits.{value_more, not_zero, passed_are_digits}
+use Rattle.numerals.proofs.number_of.Goals as goal
 
 pub loop-digit-preserved : goal.loop-digit-preserved
 loop-digit-preserved c =
