@@ -1,0 +1,5 @@
+pub mod Sets
+pub mod GeneralTrials
+pub mod GeneralLogs
+pub mod Judging
+pub mod Lines

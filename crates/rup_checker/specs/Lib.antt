@@ -1,0 +1,4 @@
+pub mod Trying
+pub mod Marks
+pub mod Kinds
+pub mod Accepting
