@@ -1,5 +1,5 @@
 -- From what a search among a question's clauses ended with to the answer.
-use Rattle.std.proofs.Common.{◌≡◌, ℕ, ◌≤◌, Bool, List, [], ◌++◌, length, drop, subst}
+use Rattle.std.proofs.Common.{◌≡◌, ℕ, ◌<◌, ◌≤◌, Bool, List, [], ◌++◌, length, drop, subst}
 use Rattle.std.specs.List.Sorted.{IsStrictlyIncreasing}
 use Rattle.litmus_syntax.specs.declared.pred.Pred.{Pred}
 use Rattle.clause_store.specs.declared.Lit.{Lit}
@@ -12,8 +12,9 @@ use Rattle.fer_events.specs.Tables.{Trace}
 use Rattle.fer_events.specs.Witness.{IsWitness}
 use Rattle.order_coding.specs.Decoded.{IsDecoded, HasValues}
 use Rattle.predicate_coding.specs.Coding.{coding}
-use Rattle.crash_question.specs.declared.asking.Answer.TheVariants.{Allowed, Forbidden}
-use Rattle.crash_question.specs.Answers.{IsAnswerTo, IsRefutedBy}
+use Rattle.crash_question.specs.declared.asking.Answer.TheVariants.{Allowed, Forbidden, Spent}
+use Rattle.proof_log.specs.Logs.{Derivation}
+use Rattle.crash_question.specs.Answers.{IsAnswerTo, IsRefutation, IsOpenPart}
 
 module _ (t : Trace) (kept : List (ℕ × ℕ)) (pred : Pred) (want : Bool) (limit : ℕ) (f : Formula) where
   -- values were found
@@ -28,9 +29,16 @@ module _ (t : Trace) (kept : List (ℕ × ℕ)) (pred : Pred) (want : Bool) (lim
   pub told_forbidden :
       f ≡ coding t kept pred want → ((crash : Crash) → IsWitness t kept pred want crash → HasValues (length t.events) crash f)
       → ((given derived : List (List Lit)) (values : List Bool) → EachFollows given derived → Follows (given ++ derived) [] → MakesAllTrue values given → ⊥)
-      → (lessons : List (List Lit)) × (length lessons ≤ limit) × IsRefutedBy f.clauses lessons
-      → IsAnswerTo t kept pred want limit Forbidden
-  told_forbidden is complete refuted (lessons, within, by) = (
-    λ crash shows. let (values, long, describes, all) = complete crash shows in refuted f.clauses lessons values by.learned.follow by.refuted all,
-    (lessons, within, subst (λ (g : Formula). IsRefutedBy g.clauses lessons) is by),
+      → (part : Derivation) → IsRefutation f part × (length part.learned ≤ limit) → IsAnswerTo t kept pred want limit (Forbidden part)
+  told_forbidden is complete refuted part (by, within) = (
+    λ crash shows.
+        let (values, long, describes, all) = complete crash shows in refuted f.clauses part.learned values by.refutes.learned.follow by.refutes.refuted all,
+    subst (λ (g : Formula). IsRefutation g part) is by,
+    within,
   )
+
+  -- it is open
+  pub told_spent :
+      f ≡ coding t kept pred want → (part : Derivation) → IsOpenPart f part × (length part.learned ≡ limit) × (limit < 18446744073709551615)
+      → IsAnswerTo t kept pred want limit (Spent part)
+  told_spent is part (leaves, full, below) = (subst (λ (g : Formula). IsOpenPart g part) is leaves, full)

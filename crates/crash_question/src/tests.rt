@@ -7,6 +7,7 @@ use branch_rules::{Activity, Brancher, First, Last};
 use fer_events::{Effect, Event, Events, Kind, Pairs, SlotName, Start, pairs_are_found};
 use fer_list::Seq;
 use litmus_syntax::Pred;
+use proof_log::Part;
 use sqlite_items::Boxed;
 use std::alloc::{AllocError, Global};
 use std::test::Fail;
@@ -157,12 +158,18 @@ fn rule(alloc: Global, number: u32) -> Result<Option<Box<dyn Brancher>>, AllocEr
     }
 }
 
-// The order and the cut of a crash as one list, and otherwise 100 or 101.
+// A number for the answer, the numbers of variables and clauses that a part says, and 1 where it is closed.
+fn shown_part(alloc: Global, answer: u32, part: &Part) -> Result<Vec<u32>, AllocError> {
+    let closed = if part.closed() { 1 } else { 0 };
+    Vec::from_slice(alloc, &[answer, part.vars(), part.clauses(), closed])
+}
+
+// The order and the cut of a crash as one list, and otherwise 100 or 101 and what the part says.
 fn shown(alloc: Global, answer: &Answer) -> Result<Vec<u32>, AllocError> {
     let mut shown = Vec::new(alloc);
     match answer {
-        Answer::Forbidden => shown.push(100)?,
-        Answer::Spent => shown.push(101)?,
+        Answer::Forbidden(part) => return shown_part(alloc, 100, part),
+        Answer::Spent(part) => return shown_part(alloc, 101, part),
         Answer::Allowed(crash) => {
             shown.extend_from_slice(crash.order.as_slice())?;
             shown.push(crash.cut)?;
@@ -210,7 +217,10 @@ fn answered(
 fn answers_by_every_rule(rt: HostRuntime) -> Result<(), Fail> {
     let alloc = rt.alloc();
     assert_eq!(rt; trivially(alloc, true)?.as_slice(), [0].as_slice());
-    assert_eq!(rt; trivially(alloc, false)?.as_slice(), [100].as_slice());
+    assert_eq!(rt;
+        trivially(alloc, false)?.as_slice(),
+        [100, 1, 2, 1].as_slice()
+    );
     let gone = gone(alloc)?;
     let twice = gone_or_gone(alloc)?;
     let free = Pairs::new(2);
@@ -222,15 +232,15 @@ fn answers_by_every_rule(rt: HostRuntime) -> Result<(), Fail> {
         );
         assert_eq!(rt;
             answered(alloc, &ordered, gone.get(), 0, number)?.as_slice(),
-            [100].as_slice()
+            [100, 10, 18, 1].as_slice()
         );
         assert_eq!(rt;
             answered(alloc, &ordered, twice.get(), 0, number)?.as_slice(),
-            [101].as_slice()
+            [101, 16, 32, 0].as_slice()
         );
         assert_eq!(rt;
             answered(alloc, &ordered, twice.get(), u64::MAX, number)?.as_slice(),
-            [100].as_slice()
+            [100, 16, 32, 1].as_slice()
         );
     }
     Ok(())

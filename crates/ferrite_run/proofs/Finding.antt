@@ -1,9 +1,9 @@
 -- From the command that was found in the words to what is answered to them.
-use Rattle.std.proofs.Common.{◌≡◌, ℕ, List, Option, Some, None, inl, inr, subst}
+use Rattle.std.proofs.Common.{◌≡◌, ℕ, List, Option, Some, None, inl, inr, ap, subst}
 use Rattle.fer_outside.specs.Held.{Held}
 use Rattle.command_line.specs.declared.commands.Command.{Command}
 use Rattle.command_line.specs.Commands.{IsCommandLine}
-use Rattle.report.specs.Answers.{Answer}
+use Rattle.ferrite_run.specs.Done.{Done}
 use Rattle.ferrite_run.specs.Built.{IsBuilt}
 use Rattle.ferrite_run.specs.Steps.Step.{ends, goes_on}
 use Rattle.ferrite_run.specs.Answers.{IsAnswer, Asks}
@@ -14,10 +14,11 @@ IsOne words choices = (c d : Command) → IsCommandLine words choices c → IsCo
 
 pub answered_found :
     (told : Option Held) (rose : List ℕ → Type 0) (words choices : List (List ℕ)) (found : Option Command) → IsFound words choices found → IsOne words choices
-    → (a : Answer) → IsFoundReply told rose found a → IsAnswer told rose words choices a
-answered_found told rose words choices None is one a e = ends ((λ c asks. is c asks.0), e)
+    → (a : Done) → IsFoundReply told rose found a → IsAnswer told rose words choices a
+answered_found told rose words choices None is one a e = ends (((λ c asks. is c asks.0), ap (λ (d : Done). d.answer) e), ap (λ (d : Done). d.kept) e)
 answered_found told rose words choices (Some c) is one a (inl (built, reply)) = goes_on c (is, built) reply
-answered_found told rose words choices (Some c) is one a (inr (unbuilt, e)) = ends ((λ d asks. unbuilt (subst IsBuilt (one d c asks.0 is) asks.1)), e)
+answered_found told rose words choices (Some c) is one a (inr (unbuilt, e)) =
+    ends (((λ d asks. unbuilt (subst IsBuilt (one d c asks.0 is) asks.1)), ap (λ (d : Done). d.answer) e), ap (λ (d : Done). d.kept) e)
 
 pub unasked_found :
     (words choices : List (List ℕ)) (found : Option Command) → IsFound words choices found → ((c : Command) → Asks words choices c → ⊥)

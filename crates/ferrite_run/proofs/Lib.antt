@@ -9,4 +9,8 @@ pub mod Asked
 pub mod SequentialText
 pub mod Sequential
 pub mod Finding
-pub mod Verdicts
+pub mod Delivery
+pub mod Keeping
+pub mod Ending
+pub mod Forward
+pub mod KeptLogs

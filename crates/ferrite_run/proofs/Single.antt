@@ -24,10 +24,25 @@ use Rattle.witness_replay.specs.CrashFiles.{IsCrashText}
 use Rattle.witness_replay.specs.Judging.{IsJudged}
 use Rattle.fer_events.proofs.PairLaws.{has_self, has_only}
 use Rattle.report.specs.declared.outcome.Role.{Role}
-use Rattle.report.specs.Answers.{Answer, LitmusRefused, ModelRefused}
+use Rattle.report.specs.Answers.{Answer, LitmusRefused, ModelRefused, LogRefused}
 use Rattle.ferrite_run.specs.Fetching.{IsUnfetched, IsFetched, most_bytes}
 use Rattle.ferrite_run.specs.Fetching.IsUnfetched.{missing, unreadable, long}
-use Rattle.ferrite_run.specs.Reading.{IsNoLitmus, IsNoModel, IsNoCrash}
+use Rattle.litmus_syntax.specs.declared.site.SiteKind.{SiteKind}
+use Rattle.clause_store.specs.Clauses.{Formula}
+use Rattle.proof_log.specs.declared.fault.LogKind.{LogKind}
+use Rattle.proof_log.specs.Kinds as log_kind
+use Rattle.proof_log.specs.Logs.{Logged}
+use Rattle.proof_log.specs.LogFiles.{IsLogText, IsLogRefused}
+use Rattle.rup_checker.specs.declared.judgement.JudgeKind.{JudgeKind}
+use Rattle.rup_checker.specs.declared.judgement.Judgement.{Judgement}
+use Rattle.rup_checker.specs.declared.judgement.Judgement.TheVariants.{Accepted, Refused}
+use Rattle.rup_checker.specs.Kinds as check_kind
+use Rattle.rup_checker.specs.Accepting as log_check
+use Rattle.ferrite_run.specs.declared.question.Question.{Question}
+use Rattle.ferrite_run.specs.Check.{formula_of}
+use Rattle.ferrite_run.specs.Verify.{IsVerified}
+use Rattle.ferrite_run.specs.Verify.IsVerified.{accepted, refused, sited}
+use Rattle.ferrite_run.specs.Reading.{IsNoLitmus, IsNoModel, IsNoCrash, IsNoLog}
 use Rattle.ferrite_run.specs.Asking.{IsUnresolved, AreKept}
 use Rattle.ferrite_run.proofs.Rows.{IsOneStep}
 
@@ -78,6 +93,10 @@ pub record Laws : Type 0 where
   pub one_crash : (bytes : List ℕ) (a b : Crash) → IsCrashText bytes a → IsCrashText bytes b → a ≡ b
   pub one_judgement : (t : Trace) (kept : List (ℕ × ℕ)) (pred : Pred) (want : Bool) (crash : Crash) (x y : CrashJudgement)
       → IsJudged t kept pred want crash x → IsJudged t kept pred want crash y → x ≡ y
+  pub one_log : (bytes : List ℕ) (a b : Logged) → IsLogText bytes a → IsLogText bytes b → a ≡ b
+  pub one_log_refusal : (bytes : List ℕ) (i j : ℕ) (k m : LogKind) → IsLogRefused bytes i k → IsLogRefused bytes j m → (i ≡ j) × (k ≡ m)
+  pub log_or_refused : (bytes : List ℕ) (a : Logged) (i : ℕ) (k : LogKind) → IsLogText bytes a → IsLogRefused bytes i k → ⊥
+  pub one_check : (formula : Formula) (log : Logged) (a b : Judgement) → log_check.IsJudged formula log a → log_check.IsJudged formula log b → a ≡ b
 
 one_refusal : (make : ℕ → ℕ → Answer) (i j k m : ℕ) → i ≡ j → k ≡ m → make i k ≡ make j m
 one_refusal make i j k m e f = ap (λ (n : ℕ). make n k) e ∙ ap (make j) f
@@ -106,6 +125,45 @@ one_crash_step laws bytes = record {
   one_yield = laws.one_crash bytes;
   apart = λ a crash (none, e) is. none crash is;
 }
+
+pub one_log_step : Laws → (bytes : List ℕ) → IsOneStep Logged (IsNoLog bytes) (IsLogText bytes)
+one_log_step laws bytes = record {
+  one_end = λ a b (i, k, h, e) (j, m, g, f).
+      let one = laws.one_log_refusal bytes i j k m h g in
+      e ∙ one_refusal LogRefused i j (log_kind.kind_number k) (log_kind.kind_number m) one.0 (ap log_kind.kind_number one.1) ∙ sym f;
+  one_yield = laws.one_log bytes;
+  apart = λ a x (i, k, h, e) is. laws.log_or_refused bytes x i k is h;
+}
+
+no_kind : (kind : SiteKind) → None ≡ Some kind → ⊥
+no_kind kind e = cc
+
+-- the line and the number of a judgement's kind
+judged_line : Judgement → ℕ
+judged_line Accepted = 0
+judged_line (Refused line kind) = line
+
+judged_kind : Judgement → ℕ
+judged_kind Accepted = 0
+judged_kind (Refused line kind) = check_kind.kind_number kind
+
+not_accepted : (line : ℕ) (kind : JudgeKind) → Accepted ≡ Refused line kind → ⊥
+not_accepted line kind e = cc
+
+-- a log is answered in one way
+pub one_verdict : Laws → (q : Question) (log : Logged) (a b : Answer) → IsVerified q log a → IsVerified q log b → a ≡ b
+unfolding judged_line judged_kind
+one_verdict laws q log a b (accepted plain is none e) (accepted also was never f) = e ∙ sym f
+one_verdict laws q log a b (accepted plain is none e) (refused also line kind was f) = absurd (not_accepted line kind (laws.one_check (formula_of q) log Accepted (Refused line kind) is was))
+one_verdict laws q log a b (accepted plain is none e) (sited kind with f) = absurd (no_kind kind (sym plain ∙ with))
+one_verdict laws q log a b (refused plain line kind is e) (accepted also was never f) = absurd (not_accepted line kind (laws.one_check (formula_of q) log Accepted (Refused line kind) was is))
+one_verdict laws q log a b (refused plain line kind is e) (refused also other sort was f) =
+    let one = laws.one_check (formula_of q) log (Refused line kind) (Refused other sort) is was in
+    e ∙ one_refusal LogRefused line other (check_kind.kind_number kind) (check_kind.kind_number sort) (ap judged_line one) (ap judged_kind one) ∙ sym f
+one_verdict laws q log a b (refused plain line kind is e) (sited sort with f) = absurd (no_kind sort (sym plain ∙ with))
+one_verdict laws q log a b (sited kind with e) (accepted plain was never f) = absurd (no_kind kind (sym plain ∙ with))
+one_verdict laws q log a b (sited kind with e) (refused plain line sort was f) = absurd (no_kind kind (sym plain ∙ with))
+one_verdict laws q log a b (sited kind with e) (sited sort too f) = e ∙ sym f
 
 pub one_resolving : Laws → (litmus : Test) (sites : List Site) → IsOneStep Trace (IsUnresolved litmus sites) (HasEvents litmus sites)
 one_resolving laws litmus sites = record {

@@ -14,6 +14,7 @@ use Rattle.event_relations.specs.Kept.{IsKept}
 use Rattle.command_line.specs.declared.commands.ModelName.{ModelName}
 use Rattle.report.specs.Answers.{Answer, LitmusRefused}
 use Rattle.ferrite_run.specs.declared.question.Question.{Question}
+use Rattle.ferrite_run.specs.Done.{Done}
 use Rattle.ferrite_run.specs.Steps.{Step}
 use Rattle.ferrite_run.specs.Reading.{OnLitmus, OnModel}
 
@@ -22,8 +23,8 @@ abbrev pub IsUnresolved : Test → List Site → Answer → Type 0
 IsUnresolved litmus sites answer = (line : ℕ) × (kind : CallKind) × IsCallRefused litmus sites line kind × (answer ≡ LitmusRefused line (kind_number kind))
 
 -- the calls of a test with these sites become events
-abbrev pub Resolve : Test → List Site → (Trace → Answer → Type 0) → Answer → Type 0
-Resolve litmus sites Next answer = Step Trace (IsUnresolved litmus sites) (HasEvents litmus sites) Next answer
+abbrev pub Resolve : Test → List Site → (Trace → Done → Type 0) → Done → Type 0
+Resolve litmus sites Next done = Step Trace (IsUnresolved litmus sites) (HasEvents litmus sites) Next done
 
 -- these are the pairs of the events that the model keeps
 pub record AreKept (model : Model) (events : List Event) (pairs : PairList) : Type 0 where
@@ -32,14 +33,14 @@ pub record AreKept (model : Model) (events : List Event) (pairs : PairList) : Ty
   pub exactly : (a b : ℕ) → Contains pairs.pairs (a, b) ↔ IsKept model events a b
 
 -- the model says which pairs of the events are kept
-abbrev pub Keep : Model → List Event → (PairList → Answer → Type 0) → Answer → Type 0
-Keep model events Next answer = Step PairList (λ _. ⊥) (AreKept model events) Next answer
+abbrev pub Keep : Model → List Event → (PairList → Done → Type 0) → Done → Type 0
+Keep model events Next done = Step PairList (λ _. ⊥) (AreKept model events) Next done
 
 -- the litmus file, then the model, then the events of the test, and those pairs of them that the model keeps
-abbrev pub OnQuestion : Option Held → (List ℕ → Type 0) → List ℕ → ModelName → (Question → Answer → Type 0) → Answer → Type 0
-OnQuestion told rose litmus model Next answer =
+abbrev pub OnQuestion : Option Held → (List ℕ → Type 0) → List ℕ → ModelName → (Question → Done → Type 0) → Done → Type 0
+OnQuestion told rose litmus model Next done =
     OnLitmus told rose litmus
     (λ test. OnModel told rose model
     (λ read. Resolve test []
     (λ trace. Keep read trace.events
-    (λ pairs. Next (record { litmus = test; events = trace; pairs = pairs }))))) answer
+    (λ pairs. Next (record { events = trace; pairs = pairs; pred = test.pred; want = test.want }))))) done

@@ -9,6 +9,7 @@ use Rattle.model_reader.specs.Kinds as model_kind
 use Rattle.report.specs.declared.outcome.Role.{Role}
 use Rattle.report.specs.declared.outcome.Role.TheVariants.{LitmusFile, ModelFile, LogFile, CrashFile}
 use Rattle.report.specs.Answers.{Answer, LitmusRefused, ModelRefused, LogRefused, CrashUnread, Missing, ReadFault}
+use Rattle.ferrite_run.specs.Done.{Done}
 use Rattle.ferrite_run.specs.Steps.{Step}
 
 -- the most bytes that a file may have which plays this part
@@ -38,5 +39,5 @@ pub record IsFetched (told : Option Held) (role : Role) (name bytes : List ℕ) 
   pub within : length bytes ≤ most_bytes role
 
 -- the file that plays this part is fetched, by its name
-abbrev pub Fetch : Option Held → (List ℕ → Type 0) → Role → List ℕ → (List ℕ → Answer → Type 0) → Answer → Type 0
-Fetch told rose role name Next answer = Step (List ℕ) (IsUnfetched told (rose name) role name) (IsFetched told role name) Next answer
+abbrev pub Fetch : Option Held → (List ℕ → Type 0) → Role → List ℕ → (List ℕ → Done → Type 0) → Done → Type 0
+Fetch told rose role name Next done = Step (List ℕ) (IsUnfetched told (rose name) role name) (IsFetched told role name) Next done

@@ -3,7 +3,8 @@ use Rattle.std.specs.Prelude.{◌≡◌, ◌⊎◌, ℕ, List, Option, Some, Non
 use Rattle.fer_outside.specs.Held.{Held}
 use Rattle.command_line.specs.declared.commands.Command.{Command}
 use Rattle.command_line.specs.Commands.{IsCommandLine}
-use Rattle.report.specs.Answers.{Answer, Usage}
+use Rattle.report.specs.Answers.{Usage}
+use Rattle.ferrite_run.specs.Done.{Done, only}
 use Rattle.ferrite_run.specs.Built.{IsBuilt}
 use Rattle.ferrite_run.specs.Answers.{IsReply}
 
@@ -11,7 +12,7 @@ use Rattle.ferrite_run.specs.Answers.{IsReply}
 abbrev pub IsFound : List (List ℕ) → List (List ℕ) → Option Command → Type 0
 IsFound words choices found = MatchOption found ((c : Command) → IsCommandLine words choices c → ⊥) (λ c. IsCommandLine words choices c)
 
-abbrev pub IsFoundReply : Option Held → (List ℕ → Type 0) → Option Command → Answer → Type 0
-IsFoundReply told rose None answer = answer ≡ Usage
-IsFoundReply told rose (Some command) answer =
-    (IsBuilt command × IsReply told rose command answer) ⊎ ((IsBuilt command → ⊥) × (answer ≡ Usage))
+abbrev pub IsFoundReply : Option Held → (List ℕ → Type 0) → Option Command → Done → Type 0
+IsFoundReply told rose None done = done ≡ only Usage
+IsFoundReply told rose (Some command) done =
+    (IsBuilt command × IsReply told rose command done) ⊎ ((IsBuilt command → ⊥) × (done ≡ only Usage))

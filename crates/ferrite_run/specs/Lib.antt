@@ -1,3 +1,4 @@
+pub mod Done
 pub mod Steps
 pub mod Fetching
 pub mod Reading
@@ -6,9 +7,12 @@ pub mod Check
 pub mod Events
 pub mod Show
 pub mod Replay
+pub mod Verify
 pub mod Built
 pub mod Answers
 pub mod Statuses
+pub mod Delivering
+pub mod Delivered
 pub mod Saying
 pub mod Yields
 pub mod Agreeing

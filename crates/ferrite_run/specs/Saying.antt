@@ -1,26 +1,33 @@
--- An answer, made ready to be written.
-use Rattle.std.specs.Prelude.{◌≡◌, ⊤, Result, Ok, Err}
-use Rattle.report.specs.Answers.{Answer, answer_text}
+-- An answer, made ready to be written, and what is to be kept.
+use Rattle.std.specs.Prelude.{◌≡◌, ⊤, ℕ, List, Option, option_map, Result, Ok, Err}
+use Rattle.report.specs.Answers.{answer_text}
+use Rattle.ferrite_run.specs.declared.saying.Kept.{Kept}
 use Rattle.ferrite_run.specs.declared.saying.Said.{Said}
 use Rattle.ferrite_run.specs.declared.saying.Stop.{Stop}
 use Rattle.ferrite_run.specs.declared.saying.Stop.TheVariants.{Answered, OutOfMemory}
+use Rattle.ferrite_run.specs.Done.{Done}
 use Rattle.ferrite_run.specs.Statuses.{status_of}
 
--- the status and the text are those of this answer
-pub record Says (said : Said) (answer : Answer) : Type 0 where
-  pub stated : said.status ≡ status_of answer
-  pub written : said.text.items ≡ answer_text answer
+-- the name and the bytes that are to be kept
+abbrev pub kept_in : Option Kept → Option (List ℕ × List ℕ)
+kept_in kept = option_map (λ k. (k.name, k.bytes.items)) kept
 
--- they are those of an answer of which this holds
-abbrev pub SaysOne : (Answer → Type 0) → Said → Type 0
-SaysOne Holds said = (answer : Answer) × Holds answer × Says said answer
+-- the status and the text are those of the answer, and what is to be kept is what is kept
+pub record Says (said : Said) (done : Done) : Type 0 where
+  pub stated : said.status ≡ status_of done.answer
+  pub written : said.text.items ≡ answer_text done.answer
+  pub keeps : kept_in said.kept ≡ done.kept
 
--- the work stopped with an answer of which this holds, or for want of memory
-abbrev pub StopsWith : (Answer → Type 0) → Stop → Type 0
+-- they are those of something of which this holds
+abbrev pub SaysOne : (Done → Type 0) → Said → Type 0
+SaysOne Holds said = (done : Done) × Holds done × Says said done
+
+-- the work stopped with something of which this holds, or for want of memory
+abbrev pub StopsWith : (Done → Type 0) → Stop → Type 0
 StopsWith Holds (Answered said) = SaysOne Holds said
 StopsWith Holds OutOfMemory = ⊤
 
--- the work ended with an answer of which this holds, or for want of memory
-abbrev pub Replies : (Answer → Type 0) → Result Said Stop → Type 0
+-- the work ended with something of which this holds, or for want of memory
+abbrev pub Replies : (Done → Type 0) → Result Said Stop → Type 0
 Replies Holds (Ok said) = SaysOne Holds said
 Replies Holds (Err stop) = StopsWith Holds stop

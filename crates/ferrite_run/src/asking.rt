@@ -2,7 +2,8 @@ ghost use Rattle.std.specs.Prelude.{◌≡◌, ℕ, ◌≤◌, List, [], IfOk, I
 ghost use Rattle.fer_outside.specs.Causes.{Rose};
 ghost use Rattle.call_events.specs.Resolved.{HasEvents};
 ghost use Rattle.ferrite_run.specs.Asking.{IsUnresolved, AreKept, OnQuestion};
-ghost use Rattle.ferrite_run.specs.Yields.{IsQuestionOf};
+ghost use Rattle.ferrite_run.specs.Done.{Tells};
+ghost use Rattle.ferrite_run.specs.Yields.{IsAskedOf, IsQuestionOf};
 ghost use Rattle.ferrite_run.specs.Saying.{StopsWith};
 
 use crate::question::Question;
@@ -13,7 +14,7 @@ use command_line::{FileName, ModelName};
 use event_relations::kept;
 use fer_events::{Events, Pairs};
 use fer_outside::Library;
-use litmus_syntax::Litmus;
+use litmus_syntax::{Litmus, copy_pred};
 use model_reader::Model;
 use report::Outcome;
 use std::alloc::{AllocError, Global};
@@ -21,7 +22,7 @@ use std::alloc::{AllocError, Global};
 /// The events that the calls of a test become.
 fn events_of(alloc: Global, litmus: &Litmus) -> Result<Events, Stop>
     ensures resolved { IfOk result (λ events. HasEvents litmus.now [] events) }
-    ensures unresolved { IfErr result (StopsWith (IsUnresolved litmus.now [])) }
+    ensures unresolved { IfErr result (StopsWith (Tells (IsUnresolved litmus.now []))) }
 {
     match resolve(alloc, litmus, &[]) {
         Ok(events) => Ok(events),
@@ -42,6 +43,22 @@ fn pairs_of(alloc: Global, events: &Events, model: &Model) -> Result<Pairs, Allo
     Ok(pairs)
 }
 
+/// The question that is asked of a test and a model.
+fn asked_of(alloc: Global, test: &Litmus, model: &Model) -> Result<Question, Stop>
+    ensures asked { IfOk result (IsAskedOf test.now model.now) }
+    ensures unasked { IfErr result (StopsWith (Tells (IsUnresolved test.now []))) }
+{
+    let events = events_of(alloc, test)?;
+    let pairs = pairs_of(alloc, &events, model)?;
+    let pred = copy_pred(alloc, test.pred())?;
+    Ok(Question {
+        events,
+        pairs,
+        pred,
+        want: test.want(),
+    })
+}
+
 /// The question that is asked of a litmus file and a model.
 pub fn question_of<L: Library>(
     alloc: Global,
@@ -54,13 +71,8 @@ pub fn question_of<L: Library>(
     ensures stays { L.held library.new ≡ L.held library.old }
     ensures never_falls { (other : List ℕ) → L.faults library.old other ≤ L.faults library.new other }
 {
-    let litmus = litmus_of(alloc, litmus, library)?;
+    let test = litmus_of(alloc, litmus, library)?;
     let model = model_of(alloc, model, library)?;
-    let events = events_of(alloc, &litmus)?;
-    let pairs = pairs_of(alloc, &events, &model)?;
-    Ok(Question {
-        litmus,
-        events,
-        pairs,
-    })
+    let question = asked_of(alloc, &test, &model)?;
+    Ok(question)
 }

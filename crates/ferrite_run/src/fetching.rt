@@ -3,6 +3,7 @@ ghost use Rattle.fer_outside.specs.Causes.{Rose};
 ghost use Rattle.report.specs.Answers.{IsPrintable};
 ghost use Rattle.report.specs.Outcomes.{answer_of};
 ghost use Rattle.ferrite_run.specs.Fetching.{most_bytes, too_long, IsFetched, IsUnfetched};
+ghost use Rattle.ferrite_run.specs.Done.{Tells};
 ghost use Rattle.ferrite_run.specs.Saying.{StopsWith};
 
 use crate::saying::{Stop, stopped};
@@ -52,7 +53,7 @@ pub fn fetch<L: Library>(
     library: &mut L,
 ) -> Result<Vec<u8>, Stop>
     ensures fetched { IfOk result (λ bytes. IsFetched (L.held library.old) role name.now bytes.items) }
-    ensures unfetched { IfErr result (StopsWith (IsUnfetched (L.held library.old) (Rose (L.faults library.old name.now) (L.faults library.new name.now)) role name.now)) }
+    ensures unfetched { IfErr result (StopsWith (Tells (IsUnfetched (L.held library.old) (Rose (L.faults library.old name.now) (L.faults library.new name.now)) role name.now))) }
     ensures stays { L.held library.new ≡ L.held library.old }
     ensures never_falls { (other : List ℕ) → L.faults library.old other ≤ L.faults library.new other }
 {

@@ -1,6 +1,7 @@
 ghost use Rattle.std.specs.Prelude.{◌≡◌, ℕ, ◌≤◌, List, length};
 ghost use Rattle.fer_outside.specs.Causes.{Rose};
 ghost use Rattle.ferrite_run.specs.Asking.{OnQuestion};
+ghost use Rattle.ferrite_run.specs.Done.{Tells};
 ghost use Rattle.ferrite_run.specs.Events.{IsTable};
 ghost use Rattle.ferrite_run.specs.Saying.{Replies};
 
@@ -15,7 +16,7 @@ use std::alloc::Global;
 /// The table of the events and of the kept pairs.
 fn table(alloc: Global, question: &Question) -> Result<Said, Stop>
     requires counted { question.now.pairs.n ≡ length question.now.events.events }
-    ensures listed { Replies (IsTable question.now) result }
+    ensures listed { Replies (Tells (IsTable question.now)) result }
 {
     let outcome = Outcome::EventTable {
         events: &question.events,
@@ -31,7 +32,7 @@ pub fn list<L: Library>(
     model: &ModelName,
     library: &mut L,
 ) -> Result<Said, Stop>
-    ensures answered { Replies (OnQuestion (L.held library.old) (λ other. Rose (L.faults library.old other) (L.faults library.new other)) litmus.now model.now IsTable) result }
+    ensures answered { Replies (OnQuestion (L.held library.old) (λ other. Rose (L.faults library.old other) (L.faults library.new other)) litmus.now model.now (λ q. Tells (IsTable q))) result }
     ensures stays { L.held library.new ≡ L.held library.old }
     ensures never_falls { (other : List ℕ) → L.faults library.old other ≤ L.faults library.new other }
 {

@@ -3,9 +3,11 @@ ghost use Rattle.fer_outside.specs.Causes.{Rose};
 ghost use Rattle.litmus_reader.specs.LitmusText.{IsLitmusText};
 ghost use Rattle.model_reader.specs.ModelText.{IsModelText};
 ghost use Rattle.witness_replay.specs.CrashFiles.{IsCrashText};
+ghost use Rattle.proof_log.specs.LogFiles.{IsLogText};
 ghost use Rattle.command_line.specs.declared.commands.ModelName.TheVariants.{File};
-ghost use Rattle.ferrite_run.specs.Reading.{IsNoLitmus, IsNoModel, IsNoCrash, OnLitmus, OnModel, OnCrash};
-ghost use Rattle.ferrite_run.specs.Yields.{IsLitmusOf, IsModelOf, IsCrashOf};
+ghost use Rattle.ferrite_run.specs.Reading.{IsNoLitmus, IsNoModel, IsNoCrash, IsNoLog, OnLitmus, OnModel, OnCrash, OnLog};
+ghost use Rattle.ferrite_run.specs.Yields.{IsLitmusOf, IsModelOf, IsCrashOf, IsLogOf};
+ghost use Rattle.ferrite_run.specs.Done.{Tells};
 ghost use Rattle.ferrite_run.specs.Saying.{StopsWith};
 
 use crate::fetching::fetch;
@@ -16,6 +18,7 @@ use fer_outside::Library;
 use litmus_reader::LitmusFault;
 use litmus_syntax::Litmus;
 use model_reader::{Model, ModelFault};
+use proof_log::{Log, LogFault};
 use report::{Outcome, Role};
 use std::alloc::Global;
 use witness_replay::CrashFault;
@@ -23,7 +26,7 @@ use witness_replay::CrashFault;
 /// The test that the bytes of a litmus file are.
 fn read_litmus(alloc: Global, bytes: &[u8]) -> Result<Litmus, Stop>
     ensures read { IfOk result (λ litmus. IsLitmusText bytes.now litmus) }
-    ensures unread { IfErr result (StopsWith (IsNoLitmus bytes.now)) }
+    ensures unread { IfErr result (StopsWith (Tells (IsNoLitmus bytes.now))) }
 {
     match litmus_reader::read(alloc, bytes) {
         Ok(litmus) => Ok(litmus),
@@ -38,7 +41,7 @@ fn read_litmus(alloc: Global, bytes: &[u8]) -> Result<Litmus, Stop>
 /// The model that the bytes of a model file are.
 fn read_model(alloc: Global, bytes: &[u8]) -> Result<Model, Stop>
     ensures read { IfOk result (λ model. IsModelText bytes.now model) }
-    ensures unread { IfErr result (StopsWith (IsNoModel bytes.now)) }
+    ensures unread { IfErr result (StopsWith (Tells (IsNoModel bytes.now))) }
 {
     match model_reader::read(alloc, bytes) {
         Ok(model) => Ok(model),
@@ -53,7 +56,7 @@ fn read_model(alloc: Global, bytes: &[u8]) -> Result<Model, Stop>
 /// The crash that the bytes of a crash file are.
 fn read_crash(alloc: Global, bytes: &[u8]) -> Result<Crash, Stop>
     ensures read { IfOk result (λ crash. IsCrashText bytes.now crash) }
-    ensures unread { IfErr result (StopsWith (IsNoCrash bytes.now)) }
+    ensures unread { IfErr result (StopsWith (Tells (IsNoCrash bytes.now))) }
 {
     match witness_replay::read(alloc, bytes) {
         Ok(crash) => Ok(crash),
@@ -119,4 +122,31 @@ pub fn crash_of<L: Library>(alloc: Global, name: &FileName, library: &mut L) -> 
     let bytes = fetch(alloc, Role::CrashFile, name, library)?;
     let crash = read_crash(alloc, bytes.as_slice())?;
     Ok(crash)
+}
+
+/// The log that the bytes of a file are.
+fn read_log(alloc: Global, bytes: &[u8]) -> Result<Log, Stop>
+    ensures read { IfOk result (λ log. IsLogText bytes.now log) }
+    ensures unread { IfErr result (StopsWith (Tells (IsNoLog bytes.now))) }
+{
+    match proof_log::read(alloc, bytes) {
+        Ok(log) => Ok(log),
+        Err(LogFault::Refused { line, kind }) => {
+            let kind = u32::from(kind.number());
+            Err(stopped(alloc, &Outcome::LogRefused { line, kind }))
+        }
+        Err(LogFault::OutOfMemory) => Err(Stop::OutOfMemory),
+    }
+}
+
+/// The log in the file of this name.
+pub fn log_of<L: Library>(alloc: Global, name: &FileName, library: &mut L) -> Result<Log, Stop>
+    ensures read { IfOk result (λ log. IsLogOf (L.held library.old) name.now log) }
+    ensures unread { IfErr result (StopsWith (OnLog (L.held library.old) (λ other. Rose (L.faults library.old other) (L.faults library.new other)) name.now (λ _ _. ⊥))) }
+    ensures stays { L.held library.new ≡ L.held library.old }
+    ensures never_falls { (other : List ℕ) → L.faults library.old other ≤ L.faults library.new other }
+{
+    let bytes = fetch(alloc, Role::LogFile, name, library)?;
+    let log = read_log(alloc, bytes.as_slice())?;
+    Ok(log)
 }

@@ -4,6 +4,7 @@ ghost use Rattle.report.specs.Answers.{IsPrintable};
 ghost use Rattle.report.specs.Outcomes.{answer_of};
 ghost use Rattle.ferrite_run.specs.Reading.{OnCrash};
 ghost use Rattle.ferrite_run.specs.Asking.{OnQuestion};
+ghost use Rattle.ferrite_run.specs.Done.{Tells};
 ghost use Rattle.ferrite_run.specs.Replay.{answer_to, IsReplayed};
 ghost use Rattle.ferrite_run.specs.Saying.{Replies};
 
@@ -33,16 +34,15 @@ fn answer_to(judgement: CrashJudgement) -> Outcome<'static>
 /// Judges the crash against the question.
 fn replay_crash(alloc: Global, question: &Question, crash: &Crash) -> Result<Said, Stop>
     requires counted { question.now.pairs.n ≡ length question.now.events.events }
-    ensures replayed { Replies (IsReplayed question.now crash.now) result }
+    ensures replayed { Replies (Tells (IsReplayed question.now crash.now)) result }
 {
     let events = &question.events;
-    let litmus = &question.litmus;
     let mut scratch = State::new(alloc, events)?;
     let judgement = judge(
         events,
         &question.pairs,
-        litmus.pred(),
-        litmus.want(),
+        &question.pred,
+        question.want,
         crash,
         &mut scratch,
     );
@@ -57,7 +57,7 @@ fn replay_file<L: Library>(
     library: &mut L,
 ) -> Result<Said, Stop>
     requires counted { question.now.pairs.n ≡ length question.now.events.events }
-    ensures replayed { Replies (OnCrash (L.held library.old) (λ other. Rose (L.faults library.old other) (L.faults library.new other)) name.now (IsReplayed question.now)) result }
+    ensures replayed { Replies (OnCrash (L.held library.old) (λ other. Rose (L.faults library.old other) (L.faults library.new other)) name.now (λ read. Tells (IsReplayed question.now read))) result }
     ensures stays { L.held library.new ≡ L.held library.old }
     ensures never_falls { (other : List ℕ) → L.faults library.old other ≤ L.faults library.new other }
 {
@@ -73,7 +73,7 @@ pub fn replay<L: Library>(
     crash: &FileName,
     library: &mut L,
 ) -> Result<Said, Stop>
-    ensures answered { Replies (OnQuestion (L.held library.old) (λ other. Rose (L.faults library.old other) (L.faults library.new other)) litmus.now model.now (λ q. OnCrash (L.held library.old) (λ other. Rose (L.faults library.old other) (L.faults library.new other)) crash.now (IsReplayed q))) result }
+    ensures answered { Replies (OnQuestion (L.held library.old) (λ other. Rose (L.faults library.old other) (L.faults library.new other)) litmus.now model.now (λ q. OnCrash (L.held library.old) (λ other. Rose (L.faults library.old other) (L.faults library.new other)) crash.now (λ read. Tells (IsReplayed q read)))) result }
     ensures stays { L.held library.new ≡ L.held library.old }
     ensures never_falls { (other : List ℕ) → L.faults library.old other ≤ L.faults library.new other }
 {

@@ -1,6 +1,7 @@
 ghost use Rattle.std.specs.Prelude.{◌≡◌, ℕ, ◌≤◌, List};
 ghost use Rattle.fer_outside.specs.Causes.{Rose};
 ghost use Rattle.ferrite_run.specs.Reading.{OnLitmus};
+ghost use Rattle.ferrite_run.specs.Done.{Tells};
 ghost use Rattle.ferrite_run.specs.Show.{IsShown};
 ghost use Rattle.ferrite_run.specs.Saying.{Replies};
 
@@ -14,7 +15,7 @@ use std::alloc::Global;
 
 /// The test in its canonical text, in the second version of the grammar, which says the sizes of all pieces.
 fn canonical(alloc: Global, litmus: &mut Litmus) -> Result<Said, Stop>
-    ensures shown { Replies (IsShown litmus.old) result }
+    ensures shown { Replies (Tells (IsShown litmus.old)) result }
 {
     litmus.upgrade();
     replied(alloc, &Outcome::Shown { litmus })
@@ -22,7 +23,7 @@ fn canonical(alloc: Global, litmus: &mut Litmus) -> Result<Said, Stop>
 
 /// The litmus file in its canonical text.
 pub fn show<L: Library>(alloc: Global, litmus: &FileName, library: &mut L) -> Result<Said, Stop>
-    ensures answered { Replies (OnLitmus (L.held library.old) (λ other. Rose (L.faults library.old other) (L.faults library.new other)) litmus.now IsShown) result }
+    ensures answered { Replies (OnLitmus (L.held library.old) (λ other. Rose (L.faults library.old other) (L.faults library.new other)) litmus.now (λ test. Tells (IsShown test))) result }
     ensures stays { L.held library.new ≡ L.held library.old }
     ensures never_falls { (other : List ℕ) → L.faults library.old other ≤ L.faults library.new other }
 {

@@ -1,33 +1,28 @@
 ghost use Rattle.std.specs.Prelude.{◌≡◌, ◌⊎◌, ℕ, ◌≤◌, ◌<◌, List, Some, IfOk};
-ghost use Rattle.fer_outside.specs.Causes.{Rose, Grew};
+ghost use Rattle.fer_outside.specs.Causes.{Rose};
 ghost use Rattle.command_line.specs.declared.commands.Command.{Command};
-ghost use Rattle.report.specs.Answers.{Answer, answer_text};
 ghost use Rattle.ferrite_run.specs.Built.{IsBuilt};
 ghost use Rattle.ferrite_run.specs.Choices.{choice_words};
 ghost use Rattle.ferrite_run.specs.Found.{IsFound, IsFoundReply};
-ghost use Rattle.ferrite_run.specs.Answers.{Asks, IsReply, IsAnswer, IsFileOf, IsProperFront};
+ghost use Rattle.ferrite_run.specs.Done.{Done};
+ghost use Rattle.ferrite_run.specs.Answers.{Asks, IsReply, IsAnswer, IsFileOf, KeepsUnder};
+ghost use Rattle.ferrite_run.specs.Delivering.{IsWhole, IsCutShort};
 ghost use Rattle.ferrite_run.specs.Saying.{SaysOne, Replies};
-ghost use Rattle.ferrite_run.specs.Statuses.{status_of};
 
 use crate::built::is_built;
 use crate::checking::check;
 use crate::choices::{Choice, taken, words_of};
+use crate::delivering::{OUT_OF_MEMORY, deliver};
 use crate::listing::list;
 use crate::replaying::replay;
 use crate::saying::{Said, Stop, replied, say};
 use crate::showing::show;
-use crate::writing::write_whole;
+use crate::verifying::verify;
 use branch_rules::Brancher;
 use command_line::{Command, Words, command_of, one_command};
 use fer_outside::{Library, Sink};
 use report::Outcome;
 use std::alloc::{AllocError, Global};
-
-/// The status where the text couldn't be written whole.
-const WRITE_FAULT: u8 = 8;
-
-/// The status where memory was wanting.
-const OUT_OF_MEMORY: u8 = 9;
 
 /// What a command that is built answers.
 fn reply<L: Library>(
@@ -42,7 +37,12 @@ fn reply<L: Library>(
     ensures never_falls { (other : List ℕ) → L.faults library.old other ≤ L.faults library.new other }
 {
     match command {
-        Command::Check { litmus, model, .. } => check(alloc, litmus, model, library, brancher),
+        Command::Check {
+            litmus,
+            model,
+            search,
+        } => check(alloc, litmus, model, search, library, brancher),
+        Command::Verify { litmus, model, log } => verify(alloc, litmus, model, log, library),
         Command::Replay {
             litmus,
             model,
@@ -132,10 +132,10 @@ fn answer_words<L: Library>(
 }
 
 /// Does all that the program does, and answers its status: 0 where the command's answer was written, 1 where a log or a
-/// crash is refused, 3 where the words are no command line, 4 where the litmus file is refused and 5 where the model is, 6
-/// where a file isn't there, 7 where it can't be read, 8 where the text couldn't be written whole, and 9 where memory was
-/// wanting. A search decides as the rule of that of `branchers` says which `--branch` names, or the first one, and else by
-/// the least variable without a value; the others are dropped before a file is fetched.
+/// crash is refused, 2 where a search met its limit, 3 where the words are no command line, 4 where the litmus file is refused and 5 where the model is, 6
+/// where a file isn't there, 7 where it can't be read, 8 where the text couldn't be written whole or a log couldn't be kept,
+/// and 9 where memory was wanting. A search decides as the rule of that of `branchers` says which `--branch` names, or the
+/// first one, and else by the least variable without a value; the others are dropped before a file is fetched.
 pub fn run<L: Library, K: Sink>(
     alloc: Global,
     words: &Words,
@@ -143,33 +143,26 @@ pub fn run<L: Library, K: Sink>(
     out: &mut K,
     branchers: Vec<Choice<'_>>,
 ) -> u8
-    // At a status below 8 it is that of an answer whose text was written whole.
-    ensures answered { result < 8 → (answer : Answer) × IsAnswer (L.held library.old) (λ name. Rose (L.faults library.old name) (L.faults library.new name)) words.now (choice_words branchers.entry.items) answer
-        × (result ≡ status_of answer) × Grew (K.written out.old) (K.written out.new) (answer_text answer) }
-    // At 8 a write failed, and a part of such a text was written that isn't the whole of it.
-    ensures cut_short { result ≡ 8 → (answer : Answer) × (front : List ℕ) × IsAnswer (L.held library.old) (λ name. Rose (L.faults library.old name) (L.faults library.new name)) words.now (choice_words branchers.entry.items) answer
-        × IsProperFront front (answer_text answer) × Grew (K.written out.old) (K.written out.new) front }
-    ensures write_fault { result ≡ 8 → Rose (K.faults out.old) (K.faults out.new) }
-    // At 9 no write was tried.
+    // At a status below 8 it is that of an answer whose text was written whole, and what is to be kept with it was kept.
+    ensures answered { result < 8 → (done : Done) × IsAnswer (L.held library.old) (λ name. Rose (L.faults library.old name) (L.faults library.new name)) words.now (choice_words branchers.entry.items) done
+        × IsWhole (L.held library.old) (L.held library.new) (K.written out.old) (K.written out.new) done result }
+    // At 8 a write failed, and a proper part of such a text was written, or nothing was, as what is to be kept wasn't.
+    ensures cut_short { result ≡ 8 → (done : Done) × IsAnswer (L.held library.old) (λ name. Rose (L.faults library.old name) (L.faults library.new name)) words.now (choice_words branchers.entry.items) done
+        × IsCutShort (L.held library.old) (L.held library.new) (λ name. Rose (L.faults library.old name) (L.faults library.new name)) (K.written out.old) (K.written out.new) (Rose (K.faults out.old) (K.faults out.new)) done }
+    // At 9 no write was tried, and nothing is kept.
     ensures out_of_memory { result ≡ 9 → out.new ≡ out.old }
-    // Where the words are no command that is built nothing is fetched.
+    ensures nothing_kept { result ≡ 9 → L.held library.new ≡ L.held library.old }
+    // Where the words are no command that is built the library isn't called.
     ensures untouched { ((command : Command) → Asks words.now (choice_words branchers.entry.items) command → ⊥) → library.new ≡ library.old }
     // Where no count of faults rose and memory sufficed, the answer is that of a run without faults.
-    ensures complete { ((command : Command) (name : List ℕ) → Asks words.now (choice_words branchers.entry.items) command → IsFileOf command name → Rose (L.faults library.old name) (L.faults library.new name) → ⊥) → (Rose (K.faults out.old) (K.faults out.new) → ⊥)
-        → (result ≡ 9) ⊎ ((answer : Answer) × IsAnswer (L.held library.old) (λ name. ⊥) words.now (choice_words branchers.entry.items) answer × (result ≡ status_of answer) × Grew (K.written out.old) (K.written out.new) (answer_text answer)) }
+    ensures complete { ((command : Command) (name : List ℕ) → Asks words.now (choice_words branchers.entry.items) command → IsFileOf command name ⊎ KeepsUnder command name → Rose (L.faults library.old name) (L.faults library.new name) → ⊥) → (Rose (K.faults out.old) (K.faults out.new) → ⊥)
+        → (result ≡ 9) ⊎ ((done : Done) × IsAnswer (L.held library.old) (λ name. ⊥) words.now (choice_words branchers.entry.items) done × IsWhole (L.held library.old) (L.held library.new) (K.written out.old) (K.written out.new) done result) }
     ensures known { result ≤ 9 }
-    ensures held_stays { L.held library.new ≡ L.held library.old }
     ensures faults_stay { (name : List ℕ) → L.faults library.old name ≤ L.faults library.new name }
     ensures write_faults_stay { K.faults out.old ≤ K.faults out.new }
 {
     match answer_words(alloc, words, library, branchers) {
         Err(_) => OUT_OF_MEMORY,
-        Ok(said) => {
-            if write_whole(out, said.text.as_slice()) {
-                said.status
-            } else {
-                WRITE_FAULT
-            }
-        }
+        Ok(said) => deliver(alloc, &said, library, out),
     }
 }

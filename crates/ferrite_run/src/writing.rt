@@ -1,6 +1,6 @@
 ghost use Rattle.std.specs.Prelude.{ℕ, ◌≤◌, ⊤, List, MatchBool};
 ghost use Rattle.fer_outside.specs.Causes.{Rose, Grew};
-ghost use Rattle.ferrite_run.specs.Answers.{IsProperFront};
+ghost use Rattle.ferrite_run.specs.Delivering.{IsProperFront};
 
 use fer_outside::Sink;
 

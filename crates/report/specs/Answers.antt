@@ -15,13 +15,14 @@ use Rattle.report.specs.declared.outcome.Role.{Role}
 use Rattle.report.specs.declared.outcome.Role.TheVariants.{LitmusFile, ModelFile, LogFile, CrashFile}
 use Rattle.report.specs.EventTable.{table_text}
 
--- what is answered: a crash that answers the question, or that none does; whether a log or a crash is accepted, a refused
--- log with its line and its kind, a refused crash with the reason; the events of a test with the kept pairs; a test; the
+-- what is answered: a crash that answers the question, that none does, or that it is open after so many learned clauses;
+-- whether a log or a crash is accepted, a refused log with its line and its kind, a refused crash with the reason; the events of a test with the kept pairs; a test; the
 -- shipped models; that the words are no command line; the line and the kind for which a file is refused, line 0 being the
 -- whole of it; the file that can't be read, or that isn't there, by the part that it plays
 pub data Answer : Type 0 where
   Allowed : Crash → Answer
   Forbidden : Answer
+  Unknown : ℕ → Answer
   LogAccepted : ℕ → Answer
   LogRefused : ℕ → ℕ → Answer
   CrashAccepted : Answer
@@ -71,6 +72,7 @@ models_text = flat_map shipped_text (Sequential ∷ Ext4like ∷ Loose ∷ [])
 abbrev pub answer_text : Answer → List ℕ
 answer_text (Allowed crash) = codes "allowed\n" ++ crash_line crash
 answer_text Forbidden = codes "forbidden\n"
+answer_text (Unknown limit) = codes "unknown " ++ decimal limit ++ codes "\n"
 answer_text (LogAccepted sites) = codes "log accepted: " ++ decimal sites ++ codes " sites\n"
 answer_text (LogRefused line kind) = refused_text LogFile line kind
 answer_text CrashAccepted = codes "crash accepted\n"

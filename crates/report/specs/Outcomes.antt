@@ -1,11 +1,12 @@
 -- The answer that an outcome is: what it lends is what it is about.
 use Rattle.report.specs.declared.outcome.Outcome.{Outcome}
 use Rattle.report.specs.declared.outcome.Outcome.TheVariants as outcome
-use Rattle.report.specs.Answers.{Answer, Allowed, Forbidden, LogAccepted, LogRefused, CrashAccepted, CrashRefused, CrashUnread, EventTable, Shown, Models, Usage, LitmusRefused, ModelRefused, ReadFault, Missing}
+use Rattle.report.specs.Answers.{Answer, Allowed, Forbidden, Unknown, LogAccepted, LogRefused, CrashAccepted, CrashRefused, CrashUnread, EventTable, Shown, Models, Usage, LitmusRefused, ModelRefused, ReadFault, Missing}
 
 abbrev pub answer_of : Outcome → Answer
 answer_of (outcome.Allowed crash) = Allowed crash.now
 answer_of outcome.Forbidden = Forbidden
+answer_of (outcome.Unknown limit) = Unknown limit
 answer_of (outcome.LogAccepted sites) = LogAccepted sites
 answer_of (outcome.LogRefused line kind) = LogRefused line kind
 answer_of outcome.CrashAccepted = CrashAccepted

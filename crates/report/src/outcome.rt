@@ -20,6 +20,10 @@ pub enum Outcome<'a> {
     },
     /// No crash answers the question.
     Forbidden,
+    /// The question is open after so many learned clauses.
+    Unknown {
+        limit: u32,
+    },
     /// The log shows that no crash answers the question, once so many sites have their syncs.
     LogAccepted {
         sites: u32,

@@ -1,7 +1,7 @@
 ghost use Rattle.std.specs.Prelude.{◌≡◌, ◌≢◌, ◌++◌, ◌∷◌, ◌≤◌, IfOk, OnOk, codes, decimal, length};
 ghost use Rattle.witness_replay.specs.declared.judgement.CrashJudgement.TheVariants.{Good};
 ghost use Rattle.report.specs.EventTable.{table_text};
-ghost use Rattle.report.specs.Answers.{Allowed, CrashRefused, LogAccepted, role_word, refused_text, fault_text, reason_text, usage_text, models_text, answer_text, IsPrintable};
+ghost use Rattle.report.specs.Answers.{Allowed, Unknown, CrashRefused, LogAccepted, role_word, refused_text, fault_text, reason_text, usage_text, models_text, answer_text, IsPrintable};
 ghost use Rattle.report.specs.Outcomes.{answer_of};
 
 use crate::event_table::{push_events, push_pairs};
@@ -19,6 +19,16 @@ fn allowed(alloc: Global, crash: &Crash) -> Result<Vec<u8>, AllocError>
     let line = witness_replay::print(alloc, crash)?;
     let mut out = Vec::from_slice(alloc, b"allowed\n")?;
     out.extend_from_slice(line.as_slice())?;
+    Ok(out)
+}
+
+/// The question is open after so many learned clauses.
+fn unknown(alloc: Global, limit: u32) -> Result<Vec<u8>, AllocError>
+    ensures { IfOk result (λ text. text.items ≡ answer_text (Unknown limit)) }
+{
+    let mut out = Vec::from_slice(alloc, b"unknown ")?;
+    push_number(&mut out, limit)?;
+    out.extend_from_slice(b"\n")?;
     Ok(out)
 }
 
@@ -152,6 +162,7 @@ pub fn text(alloc: Global, outcome: &Outcome<'_>) -> Result<Vec<u8>, AllocError>
     match outcome {
         Outcome::Allowed { crash } => allowed(alloc, crash),
         Outcome::Forbidden => Vec::from_slice(alloc, b"forbidden\n"),
+        Outcome::Unknown { limit } => unknown(alloc, *limit),
         Outcome::LogAccepted { sites } => log_accepted(alloc, *sites),
         Outcome::LogRefused { line, kind } => refused(alloc, Role::LogFile, *line, *kind),
         Outcome::CrashAccepted => Vec::from_slice(alloc, b"crash accepted\n"),

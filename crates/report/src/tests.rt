@@ -23,6 +23,13 @@ fn texts_of_answers(rt: HostRuntime) -> Result<(), Fail> {
             "allowed\norder 1 3 4 | 2\n",
         ),
         (Outcome::Forbidden, "forbidden\n"),
+        (Outcome::Unknown { limit: 0 }, "unknown 0\n"),
+        (
+            Outcome::Unknown {
+                limit: 4_294_967_295,
+            },
+            "unknown 4294967295\n",
+        ),
         (
             Outcome::LitmusRefused { line: 67, kind: 14 },
             "litmus refused: line 67 kind 14\n",

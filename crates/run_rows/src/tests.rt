@@ -4,6 +4,7 @@ mod answers;
 mod command_lines;
 mod crashes;
 mod listings;
+mod logs;
 mod replays;
 mod second_versions;
 mod steps;
@@ -51,7 +52,7 @@ fn choices(alloc: Global) -> Result<Vec<Choice<'static>>, AllocError> {
     Ok(choices)
 }
 
-/// What is written for the words over these files, of which the fetch of this number fails, and the status as the last
+/// What is written for the words over these files, where the library's call of this number fails, and the status as the last
 /// byte.
 fn written(
     alloc: Global,
@@ -59,14 +60,23 @@ fn written(
     files: &[(&str, &[u8])],
     failing: u64,
 ) -> Result<Vec<u8>, AllocError> {
-    let words = words_of(alloc, words)?;
     let mut library = MemLibrary::new(alloc);
     for (name, bytes) in files {
         library.put(name, bytes)?;
     }
     library.fail_at(failing)?;
+    said_over(alloc, words, &mut library)
+}
+
+/// What is written for the words over this library, and the status as the last byte.
+fn said_over(
+    alloc: Global,
+    words: &[&str],
+    library: &mut MemLibrary,
+) -> Result<Vec<u8>, AllocError> {
+    let words = words_of(alloc, words)?;
     let mut out = MemSink::new(alloc, 1000, 1000)?;
-    let status = run(alloc, &words, &mut library, &mut out, choices(alloc)?);
+    let status = run(alloc, &words, library, &mut out, choices(alloc)?);
     let mut all = Vec::from_slice(alloc, out.bytes())?;
     all.push(b'0' + status.min(9))?;
     Ok(all)

@@ -22,8 +22,42 @@ const LINES: &[(&[&str], &str)] = &[
         &["check", "a.lit", "@loose", "--branch", "last"],
         "not found: litmus\n6",
     ),
+    (
+        &["check", "a.lit", "@sequential", "--log", "l"],
+        "not found: litmus\n6",
+    ),
+    (&["check", "a.lit", "@loose", "--conflicts", "5"], USAGE),
+    (
+        &["check", "a.lit", "@loose", "--log", "l", "--conflicts", "0"],
+        USAGE,
+    ),
+    (
+        &[
+            "check",
+            "a.lit",
+            "@loose",
+            "--log",
+            "l",
+            "--conflicts",
+            "4294967296",
+        ],
+        USAGE,
+    ),
+    (
+        &[
+            "check",
+            "a.lit",
+            "@loose",
+            "--conflicts",
+            "4294967295",
+            "--log",
+            "l",
+        ],
+        "not found: litmus\n6",
+    ),
+    (&["verify", "a.lit", "@loose"], USAGE),
+    (&["verify", "a.lit", "@loose", "l"], "not found: litmus\n6"),
     // These aren't built.
-    (&["check", "a.lit", "@sequential", "--log", "l"], USAGE),
     (&["repair", "a.lit", "@sequential"], USAGE),
     (&["work", "7", "24"], USAGE),
     (

@@ -1,24 +1,34 @@
-use Rattle.std.proofs.Common.{subst}
+use Rattle.std.proofs.Common.{ℕ, Option, unwrap_or, subst, ◌∙◌, ap}
 use Rattle.crash_question.specs.Answers.{IsAnswerTo}
 use Rattle.ferrite_run.specs.Check.{IsChecked}
+use Rattle.ferrite_run.specs.Check.IsChecked.{allowed, forbidden, unknown}
 use Rattle.ferrite_run.proofs.Ready.{replies_more}
-use Rattle.ferrite_run.proofs.Verdicts.{told_allowed, told_forbidden}
 use Rattle.ferrite_run.proofs.checking.verdict.Goals as goal
 
 pub returns-in-Allowed : goal.returns-in-Allowed
 returns-in-Allowed g c =
     let q = c.args.question.now in
-    let told = subst (IsAnswerTo q.events q.pairs.pairs c.pred.result.now c.want.result 18446744073709551615) c.in-Allowed.is c.in_ok-crash.ensures.answer in
+    let crash = c.in-Allowed.crash in
+    let told = subst (IsAnswerTo q.events q.pairs.pairs q.pred q.want c.most_learned.result) c.in-Allowed.is c.in_ok-crash.ensures.answer in
     record {
-      checked = replies_more _ (IsChecked q) c.replied.result (told_allowed q c.pred.result.now c.want.result c.pred.ensures c.want.ensures c.in-Allowed.crash told)
-          c.replied.ensures.replied;
+      checked = replies_more _ (IsChecked q c.args.search.now) c.replied.result (λ a e. allowed crash told.0 told.1 e) c.replied.ensures.replied;
     }
 
 pub returns-in-Forbidden : goal.returns-in-Forbidden
 returns-in-Forbidden g c =
     let q = c.args.question.now in
-    let told = subst (IsAnswerTo q.events q.pairs.pairs c.pred.result.now c.want.result 18446744073709551615) c.in-Forbidden.is c.in_ok-crash.ensures.answer in
+    let told = subst (IsAnswerTo q.events q.pairs.pairs q.pred q.want c.most_learned.result) c.in-Forbidden.is c.in_ok-crash.ensures.answer in
     record {
-      checked = replies_more _ (IsChecked q) c.replied-in-Forbidden.result (told_forbidden q c.pred.result.now c.want.result c.pred.ensures c.want.ensures told.0)
-          c.replied-in-Forbidden.ensures.replied;
+      checked = replies_more _ (IsChecked q c.args.search.now) c.replied_with.result
+          (λ a e. forbidden (λ (crash, is). told.0 crash is) c.in-Forbidden.part c.keeps_rules.ensures told.1 e) c.replied_with.ensures.replied;
+    }
+
+pub returns-in-Some : goal.returns-in-Some
+returns-in-Some g c =
+    let q = c.args.question.now in
+    let told = subst (IsAnswerTo q.events q.pairs.pairs q.pred q.want c.most_learned.result) c.in-Spent.is c.in_ok-crash.ensures.answer in
+    let full = told.1 ∙ c.most_learned.ensures ∙ ap (λ (o : Option ℕ). unwrap_or o 18446744073709551615) c.in-Some.is in
+    record {
+      checked = replies_more _ (IsChecked q c.args.search.now) c.replied_with-in-Some.result
+          (λ a e. unknown c.in-Some.limit c.in-Some.is c.in-Spent.part c.keeps_rules-in-Spent.ensures told.0 full e) c.replied_with-in-Some.ensures.replied;
     }

@@ -16,6 +16,10 @@ returns c = record {
         events_or_refused = c.one_outcome.ensures.events_or_refused;
         one_crash = c.one_crash.ensures;
         one_judgement = c.one_judgement.ensures;
+        one_log = c.one_log.ensures;
+        one_log_refusal = c.one_refusal.ensures.refusal;
+        log_or_refused = c.one_refusal.ensures.text_or_refused;
+        one_check = c.one_judgement-2.ensures;
       })
       c.one_command.ensures.one;
 }

@@ -1,5 +1,7 @@
 use Rattle.std.proofs.Common.{ℕ, List}
 use Rattle.fer_outside.specs.Causes.{Rose}
+use Rattle.ferrite_run.specs.declared.question.Question.{Question}
+use Rattle.ferrite_run.specs.Done.{Done, Tells}
 use Rattle.ferrite_run.specs.Asking.{OnQuestion}
 use Rattle.ferrite_run.specs.Events.{IsTable}
 use Rattle.ferrite_run.proofs.Asked.{unasked, on_question}
@@ -12,13 +14,15 @@ returns-in_err-question-clause-answered g c =
     let rose : List ℕ → Type 0 = λ other. Rose (g.L.Library.faults c.args.library.now other) (g.L.Library.faults c.question_of.new.library other) in
     let l = c.args.litmus.now in
     let m = c.args.model.now in
-    reply_passed_on c.from_residual.result c.in_err-question.field-0.0 (OnQuestion told rose l m IsTable) c.from_residual.ensures.1
-    (stops_more (OnQuestion told rose l m (λ _ _. ⊥)) _ c.in_err-question.field-0.0 (λ a h. unasked told rose l m IsTable a h) c.in_err-question.ensures.unasked)
+    let Next : Question → Done → Type 0 = λ q. Tells (IsTable q) in
+    reply_passed_on c.from_residual.result c.in_err-question.field-0.0 (OnQuestion told rose l m Next) c.from_residual.ensures.1
+    (stops_more (OnQuestion told rose l m (λ _ _. ⊥)) _ c.in_err-question.field-0.0 (λ a h. unasked told rose l m Next a h) c.in_err-question.ensures.unasked)
 
 pub returns-clause-answered : goal.returns-clause-answered
 returns-clause-answered g c =
     let told = g.L.Library.held c.args.library.now in
     let rose : List ℕ → Type 0 = λ other. Rose (g.L.Library.faults c.args.library.now other) (g.L.Library.faults c.question_of.new.library other) in
     let q = c.in_ok-question.question in
-    replies_more (IsTable q) (OnQuestion told rose c.args.litmus.now c.args.model.now IsTable) c.table.result
-    (λ a h. on_question told rose c.args.litmus.now c.args.model.now IsTable q a c.in_ok-question.ensures.asked h) c.table.ensures.listed
+    let Next : Question → Done → Type 0 = λ q. Tells (IsTable q) in
+    replies_more (Tells (IsTable q)) (OnQuestion told rose c.args.litmus.now c.args.model.now Next) c.table.result
+    (λ a h. on_question told rose c.args.litmus.now c.args.model.now Next q a c.in_ok-question.ensures.asked h) c.table.ensures.listed

@@ -1,5 +1,6 @@
 use Rattle.std.proofs.Common.{ℕ, List, subst}
 use Rattle.fer_outside.specs.Causes.{Rose}
+use Rattle.ferrite_run.specs.Done.{Tells}
 use Rattle.ferrite_run.specs.Reading.{IsNoCrash, OnCrash}
 use Rattle.ferrite_run.proofs.Asked.{crash_unread}
 use Rattle.ferrite_run.proofs.Ready.{stops_more, passed_on}
@@ -11,7 +12,7 @@ returns-in_err-crash-clause-unread g c =
     let rose : List ℕ → Type 0 = λ other. Rose (g.L.Library.faults c.args.library.now other) (g.L.Library.faults c.fetch.new.library other) in
     let name = c.args.name.now in
     passed_on c.from_residual-in_err-crash.result c.in_err-crash.field-0.0 (OnCrash told rose name (λ _ _. ⊥)) c.from_residual-in_err-crash.ensures.1
-    (stops_more (IsNoCrash c.as_slice.result.now) _ c.in_err-crash.field-0.0
+    (stops_more (Tells (IsNoCrash c.as_slice.result.now)) _ c.in_err-crash.field-0.0
     (λ a h. crash_unread told rose name c.in_ok-bytes.bytes.items (λ _ _. ⊥) a c.in_ok-bytes.ensures.fetched
-    (let P : List ℕ → Type 0 = λ bytes. IsNoCrash bytes a in subst P c.as_slice.ensures.value h))
+    (let P : List ℕ → Type 0 = λ bytes. Tells (IsNoCrash bytes) a in subst P c.as_slice.ensures.value h))
     c.in_err-crash.ensures.unread)

@@ -2,6 +2,7 @@ use Rattle.std.proofs.Common.{ℕ, List, sym, ◌∙◌, subst}
 use Rattle.fer_outside.specs.Causes.{Rose}
 use Rattle.command_line.specs.declared.commands.ModelName.{ModelName}
 use Rattle.command_line.specs.declared.commands.ModelName.TheVariants.{Shipped, File}
+use Rattle.ferrite_run.specs.Done.{Tells}
 use Rattle.ferrite_run.specs.Reading.{IsNoModel, OnModel}
 use Rattle.ferrite_run.specs.Steps.Step.{ends}
 use Rattle.ferrite_run.proofs.Ready.{stops_more, passed_on}
@@ -13,9 +14,9 @@ returns-in_err-model-in-Shipped-clause-unread g c =
     let rose : List ℕ → Type 0 = λ other. Rose (g.L.Library.faults c.args.library.now other) (g.L.Library.faults c.args.library.now other) in
     let same = c.as_bytes.ensures.value ∙ c.text.ensures.written in
     passed_on c.from_residual.result c.in_err-model-in-Shipped.field-0.0 (OnModel told rose c.args.name.now (λ _ _. ⊥)) c.from_residual.ensures.1
-    (stops_more (IsNoModel c.as_bytes.result.now) _ c.in_err-model-in-Shipped.field-0.0
+    (stops_more (Tells (IsNoModel c.as_bytes.result.now)) _ c.in_err-model-in-Shipped.field-0.0
     (λ a h.
-    let P : List ℕ → Type 0 = λ bytes. IsNoModel bytes a in
+    let P : List ℕ → Type 0 = λ bytes. Tells (IsNoModel bytes) a in
     let Q : ModelName → Type 0 = λ name. OnModel told rose name (λ _ _. ⊥) a in
     let here : Q (Shipped c.in-Shipped.shipped) = ends (subst P same h) in
     subst Q (sym c.in-Shipped.is) here)

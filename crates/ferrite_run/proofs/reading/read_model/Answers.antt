@@ -1,7 +1,8 @@
 use Rattle.std.proofs.Common.{Err, ◌∙◌, ap}
 use Rattle.report.specs.Answers.{ModelRefused}
+use Rattle.ferrite_run.specs.Done.{Tells}
 use Rattle.ferrite_run.specs.Reading.{IsNoModel}
-use Rattle.ferrite_run.proofs.Ready.{stops_more}
+use Rattle.ferrite_run.proofs.Ready.{stops_more, told_only}
 use Rattle.ferrite_run.proofs.reading.read_model.Goals as goal
 
 pub returns-in-Err-Refused-clause-unread : goal.returns-in-Err-Refused-clause-unread
@@ -9,4 +10,5 @@ returns-in-Err-Refused-clause-unread c =
     let line = c.in-Err-Refused.line in
     let kind = c.in-Err-Refused.kind in
     let refused = c.read.ensures.refused line kind (c.in-Err-Refused.is ∙ ap Err c.in-Err-Refused.field-0-is) in
-    stops_more _ (IsNoModel c.args.bytes.now) c.stopped.result (λ a e. (line, kind, refused, e ∙ ap (ModelRefused line) c.number-kind.ensures)) c.stopped.ensures.stopped
+    stops_more _ (Tells (IsNoModel c.args.bytes.now)) c.stopped.result
+    (λ a e. told_only (IsNoModel c.args.bytes.now) (ModelRefused line c.number-kind.result) a (line, kind, refused, ap (ModelRefused line) c.number-kind.ensures) e) c.stopped.ensures.stopped

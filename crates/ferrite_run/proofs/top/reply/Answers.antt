@@ -28,3 +28,9 @@ returns-in-Replay-clause-replied g c =
     let rose : List ℕ → Type 0 = λ other. Rose (g.L.Library.faults c.args.library.now other) (g.L.Library.faults c.replay.new.library other) in
     let P : Command → Type 0 = λ command. Replies (IsReply (g.L.Library.held c.args.library.now) rose command) c.replay.result in
     subst P (sym c.in-Replay.is) c.replay.ensures.answered
+
+pub returns-in-Verify-clause-replied : goal.returns-in-Verify-clause-replied
+returns-in-Verify-clause-replied g c =
+    let rose : List ℕ → Type 0 = λ other. Rose (g.L.Library.faults c.args.library.now other) (g.L.Library.faults c.verify.new.library other) in
+    let P : Command → Type 0 = λ command. Replies (IsReply (g.L.Library.held c.args.library.now) rose command) c.verify.result in
+    subst P (sym c.in-Verify.is) c.verify.ensures.answered
