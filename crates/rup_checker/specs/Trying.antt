@@ -34,7 +34,7 @@ pub record IsTrying (f : Formula) (w : Watching) (t : Course) (clause : List Lit
 
 -- what a trial showed of the clause: it follows, it doesn't, or it has a literal beside its negation
 abbrev pub IsTrial : List (List Lit) → List Lit → Trial → Type 0
-IsTrial clauses clause trial.Follows = Follows clauses clause
+IsTrial clauses clause (trial.Follows id) = Follows clauses clause
 IsTrial clauses clause trial.Open = Follows clauses clause → ⊥
 IsTrial clauses clause trial.Doubtful = (l : Lit) × Contains clause l × Contains clause (negated l)
 

@@ -5,7 +5,7 @@
 //! was found: it stands on `unit_closure` and what lies below it, and on `proof_log` for what a log is.
 #![tactic(auto)]
 
-ghost use Rattle.std.specs.Prelude.{◌≡◌, IfOk, OnOk, OnErr, MatchBool};
+ghost use Rattle.std.specs.Prelude.{◌≡◌, IfOk, OnOk, OnErr, MatchBool, MatchOption};
 ghost use Rattle.std.specs.List.{All};
 ghost use Rattle.clause_store.specs.Clauses.{InVars};
 ghost use Rattle.clause_store.specs.Propagation.{Follows};
@@ -108,6 +108,27 @@ impl Checker {
         Ok(())
     }
 
+    // Judges a clause, and where it follows tells the number of a clause that ended its trial, if one did. The number is a
+    // hint: it may be any.
+    fn judge(&mut self, lits: &[Lit]) -> Result<Option<usize>, AllocError>
+        requires { All (InVars self.old.vars) lits.now }
+        ensures exact { IfOk result (λ found. MatchOption found (Follows self.old.clauses lits.now → ⊥) (λ _. Follows self.old.clauses lits.now)) }
+        ensures same { self.new ≡ self.old }
+    {
+        if self.dead {
+            return Ok(Some(usize::MAX));
+        }
+        match try_out(&self.store, &mut self.watches, &mut self.trail, lits) {
+            Trial::Follows(id) => return Ok(Some(id)),
+            Trial::Open => return Ok(None),
+            Trial::Doubtful => {}
+        }
+        if follows_by_rounds(self.alloc, &self.store, lits)? {
+            return Ok(Some(usize::MAX));
+        }
+        Ok(None)
+    }
+
     /// Whether the clause follows from the clauses by unit propagation. Its variables have to be there. The clauses stay,
     /// also where memory is refused, which is asked for only where the clause has a literal beside its negation.
     pub fn follows(&mut self, lits: &[Lit]) -> Result<bool, AllocError>
@@ -115,16 +136,10 @@ impl Checker {
         ensures exact { IfOk result (λ yes. MatchBool yes (Follows self.old.clauses lits.now) (Follows self.old.clauses lits.now → ⊥)) }
         ensures same { self.new ≡ self.old }
     {
-        if self.dead {
-            return Ok(true);
+        match self.judge(lits)? {
+            None => Ok(false),
+            Some(_) => Ok(true),
         }
-        match try_out(&self.store, &mut self.watches, &mut self.trail, lits) {
-            Trial::Follows => return Ok(true),
-            Trial::Open => return Ok(false),
-            Trial::Doubtful => {}
-        }
-        let yes = follows_by_rounds(self.alloc, &self.store, lits)?;
-        Ok(yes)
     }
 
     // Puts a clause behind the others.
@@ -168,10 +183,14 @@ impl Checker {
             self.repeat(lits)?;
             return Ok(true);
         }
-        if !self.follows(lits)? {
+        let Some(id) = self.judge(lits)? else {
             return Ok(false);
+        };
+        if recent::is_here(&self.store, id, lits) {
+            self.repeat(lits)?;
+        } else {
+            self.add(lits)?;
         }
-        self.add(lits)?;
         Ok(true)
     }
 }

@@ -41,8 +41,8 @@ pub fn note(recent: &mut [usize], lits: &[Lit], id: usize)
     }
 }
 
-// Whether the clause of this number is in the store and has no literals but these.
-fn is_here(store: &Store, id: usize, lits: &[Lit]) -> bool
+/// Whether the clause of this number is in the store and has no literals but these.
+pub fn is_here(store: &Store, id: usize, lits: &[Lit]) -> bool
     ensures { MatchBool result (HasPart store.now.clauses lits.now) (Unit {0}) }
 {
     if id >= store.len() {

@@ -14,10 +14,10 @@ use unit_closure::standing::{holds, is_open};
 use unit_closure::steps::spread;
 use watch_lists::Watches;
 
-/// What a trial shows of a clause: it follows, it doesn't, or it has a literal beside its negation, so that the trial can't
-/// tell.
+/// What a trial shows of a clause: it follows, as the clause of this number ended the trial; it doesn't; or it has a literal
+/// beside its negation, so that the trial can't tell.
 pub enum Trial {
-    Follows,
+    Follows(usize),
     Open,
     Doubtful,
 }
@@ -44,7 +44,7 @@ fn deny(
     if is_open(trail, lit) {
         trail.decide(lit.negated());
         return match spread(store, watches, trail) {
-            Some(_) => Some(Trial::Follows),
+            Some(id) => Some(Trial::Follows(id)),
             None => None,
         };
     }
@@ -52,7 +52,7 @@ fn deny(
         return None;
     }
     match trail.reason_of(lit.var) {
-        Some(_) => Some(Trial::Follows),
+        Some(id) => Some(Trial::Follows(id)),
         None => Some(Trial::Doubtful),
     }
 }

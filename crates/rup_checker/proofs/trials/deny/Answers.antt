@@ -15,7 +15,7 @@ spread-requires c =
 
 pub returns-in-Some-clause-ended : goal.returns-in-Some-clause-ended
 returns-in-Some-clause-ended c =
-    follows-conflict c.args.store.now.clauses c.spread.new.trail.entries c.args.clause.now c.in-Some.field-0 c.spread.ensures.sound.search.reasons
+    follows-conflict c.args.store.now.clauses c.spread.new.trail.entries c.args.clause.now c.in-Some.id c.spread.ensures.sound.search.reasons
     (denials-spread c.args.trail.now c.decide.new.self c.spread.new.trail c.args.clause.now c.args.lit c.requires.trying.denials c.requires.has
     (c.decide.ensures ∙ ap (λ l. decided c.args.trail.now l) c.negated.ensures) c.spread.ensures.spreads)
     c.in-Some.ensures.conflict
@@ -42,7 +42,7 @@ returns-then-not-holds-clause-fails c = elim (one-of-three c.args.trail.now.entr
 pub returns-in-Some-reason_of-clause-ended : goal.returns-in-Some-reason_of-clause-ended
 returns-in-Some-reason_of-clause-ended c =
     let h = c.if-not-holds.ensures in
-    follows-implied c.args.store.now.clauses c.args.trail.now.entries c.args.clause.now c.args.lit c.in-Some-reason_of.field-0 c.requires.trying.sound.search.reasons c.requires.trying.denials c.requires.has
+    follows-implied c.args.store.now.clauses c.args.trail.now.entries c.args.clause.now c.args.lit c.in-Some-reason_of.id c.requires.trying.sound.search.reasons c.requires.trying.denials c.requires.has
     h (sym (c.reason_of.ensures h.0 h.1 (ap (λ (l : Lit). l.var) h.2)) ∙ c.in-Some-reason_of.is)
 
 pub returns-in-None-reason_of-clause-ended : goal.returns-in-None-reason_of-clause-ended
