@@ -1,5 +1,5 @@
 -- General lemmas: the first item of a list that passes a test.
-use Rattle.std.proofs.Common.{◌≡◌, ℕ, zero, suc, ◌+◌, ◌<◌, nat_lt, ltb, Bool, true, false, not, cond, List, [], ◌∷◌, length, Option, Some, None, position, is_some, All, get_or, inl, inr, sym, ◌∙◌, ap, refl, arith}
+use Rattle.std.proofs.Common.{◌≡◌, ℕ, zero, suc, ◌+◌, ◌<◌, nat_lt, ltb, Bool, true, false, not, cond, List, [], ◌∷◌, length, Some, None, position, is_some, All, get_or, inl, inr, sym, ◌∙◌, ap, refl, arith}
 use Rattle.std.specs.List.{position_or_len}
 use Rattle.std.proofs.lemmas.Bool.{cases_Bool, cond-true, lt-ltb, true≢false}
 use Rattle.std.proofs.lemmas.Bool.Decides.{nat_tests}

@@ -1,4 +1,5 @@
 pub mod PairLaws
+pub mod RowLaws
 pub mod PathLaws
 pub mod Times
 pub mod Ranges

@@ -1,6 +1,8 @@
 pub mod Orders
 pub mod Pairs
 pub mod Matrix
+pub mod Lifting
+pub mod Rows
 pub mod Tables
 pub mod Paths
 pub mod States

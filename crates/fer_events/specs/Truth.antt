@@ -1,5 +1,5 @@
 -- The truth of a predicate in a state.
-use Rattle.std.specs.Prelude.{ℕ, ◌+◌, Bool, true, false, not, ◌&&◌, ◌||◌, ◌==◌, nat_le, List, [], ◌∷◌, ◌++◌, length, take, drop, bytes_eq, Option, Some, is_some, slice_get, position, unwrap_or, option_and_then}
+use Rattle.std.specs.Prelude.{ℕ, ◌+◌, Bool, true, false, not, ◌&&◌, ◌||◌, ◌==◌, nat_le, List, [], length, take, drop, bytes_eq, Option, Some, is_some, slice_get, position, unwrap_or, option_and_then}
 use Rattle.std.specs.Option.{option_map_or}
 use Rattle.litmus_syntax.specs.declared.pred.Pred.{Pred, fold-Pred}
 use Rattle.litmus_syntax.specs.declared.pred.Pred.TheOpen.{Pred-F}

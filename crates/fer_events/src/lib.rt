@@ -7,6 +7,7 @@
 
 mod event;
 mod laws;
+mod lifting;
 mod limits;
 mod pairs;
 mod paths;
@@ -16,6 +17,7 @@ pub use event::{Crash, Effect, Event, Kind};
 pub use laws::{
     all_pairs_keep_program_order, pairs_are_found, paths_have_their_slots, syncs_are_formed,
 };
+pub use lifting::lift;
 pub use limits::{
     MOST_DIRECTORIES, MOST_EVENTS, MOST_EVENTS_BUT_SYNCS, MOST_FILES, MOST_KEYS, MOST_NAMES,
 };
