@@ -1,1 +1,3 @@
 pub mod ShippedModels
+pub mod Generated
+pub mod Drawing
