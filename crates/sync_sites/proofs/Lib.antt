@@ -1,0 +1,10 @@
+pub mod Lists
+pub mod Steps
+pub mod TestRuns
+pub mod Placed
+pub mod TooMany
+pub mod Counted
+pub mod Beside
+pub mod Finding
+pub mod Behind
+pub mod Accepted

@@ -1,0 +1,3 @@
+pub mod SiteLists
+pub mod Faults
+pub mod Passing
