@@ -1,0 +1,4 @@
+pub mod SetLaws
+pub mod Under
+pub mod Carried
+pub mod WalkLaws

@@ -1,0 +1,4 @@
+pub mod Sets
+pub mod Walk
+pub mod Steps
+pub mod Counting
