@@ -1,0 +1,16 @@
+pub mod Members
+pub mod Numbering
+pub mod Reordering
+pub mod Leaving
+pub mod Among
+pub mod Witnesses
+pub mod Joining
+pub mod Chunks
+pub mod Rising
+pub mod Walking
+pub mod Tests
+pub mod Reached
+pub mod Steps
+pub mod Tables
+pub mod Between
+pub mod SiteCalls

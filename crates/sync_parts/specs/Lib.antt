@@ -1,0 +1,4 @@
+pub mod Parts
+pub mod Sites
+pub mod Reaching
+pub mod Without
