@@ -9,6 +9,7 @@ mod asking;
 mod searching;
 
 pub use asking::{Answer, ask};
+pub use searching::{clause_count, part_of};
 
 #[cfg(test)]
 mod tests;

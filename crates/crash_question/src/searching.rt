@@ -19,7 +19,7 @@ pub enum Found {
 }
 
 /// How many clauses there are. Where 32 bits don't hold the number, so large a formula counts as want of memory.
-fn clause_count(store: &Store) -> Result<u32, AllocError>
+pub fn clause_count(store: &Store) -> Result<u32, AllocError>
     ensures { IfOk result (λ count. count ≡ length store.now.clauses) }
 {
     match u32::try_from(store.len()) {
@@ -40,8 +40,9 @@ fn copy_learned(alloc: Global, vars: u32, learned: &Learned<'_>) -> Result<Store
     Ok(store)
 }
 
-/// What the solver learned, as a part of a log of so many clauses.
-fn part_of(
+/// All that a solver learned, as a part of a log of so many clauses over its variables. `closed` says whether the empty clause
+/// ends the part. The only error is want of memory.
+pub fn part_of(
     alloc: Global,
     solver: &Solver,
     vars: u32,
