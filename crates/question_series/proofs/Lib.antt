@@ -1,0 +1,4 @@
+pub mod Rows
+pub mod Assumed
+pub mod Told
+pub mod Finding
