@@ -1,9 +1,8 @@
 -- What the steps up to a question yield, and how the work goes on from there.
-use Rattle.std.proofs.Common.{ℕ, ◌≤◌, Bool, List, [], Option, subst, arith}
+use Rattle.std.proofs.Common.{ℕ, ◌≤◌, List, [], Option, subst, arith}
 use Rattle.fer_outside.specs.Held.{Held}
 use Rattle.fer_outside.specs.Causes.{Rose}
 use Rattle.litmus_syntax.specs.Test.{Test}
-use Rattle.litmus_syntax.specs.declared.pred.Pred.{Pred}
 use Rattle.fer_events.specs.declared.event.Crash.{Crash}
 use Rattle.model_reader.specs.declared.model.Model.{Model}
 use Rattle.command_line.specs.declared.commands.ModelName.{ModelName}
@@ -15,8 +14,8 @@ use Rattle.ferrite_run.specs.declared.question.Question.{Question}
 use Rattle.ferrite_run.specs.Steps.Step.{ends, goes_on}
 use Rattle.ferrite_run.specs.Fetching.{IsUnfetched, IsFetched}
 use Rattle.ferrite_run.specs.Reading.{IsNoLitmus, IsNoModel, IsNoCrash, IsNoLog, OnLitmus, OnModel, OnCrash, OnLog}
-use Rattle.ferrite_run.specs.Asking.{IsUnresolved, OnQuestion}
-use Rattle.ferrite_run.specs.Yields.{IsLitmusOf, IsModelOf, IsCrashOf, IsLogOf, IsQuestionOf}
+use Rattle.ferrite_run.specs.Asking.{IsUnresolved, OnRead, OnQuestion}
+use Rattle.ferrite_run.specs.Yields.{IsLitmusOf, IsModelOf, IsCrashOf, IsLogOf, IsAskedOf, IsQuestionOf}
 use Rattle.ferrite_run.proofs.Calm.{litmus_more, model_more, question_more}
 
 -- a count that rose from some time on rose from an earlier time on
@@ -96,15 +95,20 @@ pub no_events :
     → IsLitmusOf told litmus t → IsModelOf told model m → Tells (IsUnresolved t []) a → OnQuestion told rose litmus model Next a
 no_events told rose litmus model Next t m a read read_model h = on_litmus told rose litmus _ t a read (on_model told rose model _ m a read_model (ends h))
 
+-- a question about a test that was read
+pub on_read : (test : Test) (model : Model) (Next : Question → Done → Type 0) (q : Question) (a : Done) → IsAskedOf test model q → Next q a → OnRead test model Next a
+on_read test model Next q a is next =
+    let make : Test → Model → Question = λ t m. record { litmus = t; model = m; events = q.events; pairs = q.pairs } in
+    let asked : Next (make test model) a =
+    subst (λ (m : Model). Next (make test m) a) is.model_of (subst (λ (t : Test). Next (make t q.model) a) is.litmus next) in
+    goes_on q.events is.resolved (goes_on q.pairs is.kept asked)
+
 -- the question is asked, and the work goes on from it
 pub on_question :
     (told : Option Held) (rose : List ℕ → Type 0) (litmus : List ℕ) (model : ModelName) (Next : Question → Done → Type 0) (q : Question) (a : Done)
     → IsQuestionOf told litmus model q → Next q a → OnQuestion told rose litmus model Next a
 on_question told rose litmus model Next q a is next =
-    let make : Pred → Bool → Question = λ p w. record { events = q.events; pairs = q.pairs; pred = p; want = w } in
-    let asked : Next (make is.test.pred is.test.want) a =
-    subst (λ (w : Bool). Next (make is.test.pred w) a) is.asked.want (subst (λ (p : Pred). Next (make p q.want) a) is.asked.pred next) in
-    on_litmus told rose litmus _ is.test a is.litmus_read (on_model told rose model _ is.model a is.model_read (goes_on q.events is.asked.resolved (goes_on q.pairs is.asked.kept asked)))
+    on_litmus told rose litmus _ is.test a is.litmus_read (on_model told rose model _ is.model a is.model_read (on_read is.test is.model Next q a is.asked next))
 
 -- what ended the work before the question ends it whatever follows
 pub unasked :

@@ -27,7 +27,10 @@ use Rattle.ferrite_run.specs.Steps.Step.{ends, goes_on}
 use Rattle.ferrite_run.specs.Fetching.{Fetch, IsUnfetched, IsFetched}
 use Rattle.ferrite_run.specs.Fetching.IsUnfetched.{missing, unreadable, long}
 use Rattle.ferrite_run.specs.Reading.{IsNoLitmus, IsNoModel, IsNoCrash, IsNoLog, ReadLitmus, ReadModel, ReadCrash, ReadLog, OnLitmus, OnModel, OnCrash, OnLog}
-use Rattle.ferrite_run.specs.Asking.{IsUnresolved, AreKept, Resolve, Keep, OnQuestion}
+use Rattle.sync_repair.specs.Sets.{AreKept}
+use Rattle.ferrite_run.specs.Asking.{IsUnresolved, Resolve, Keep, OnQuestion}
+use Rattle.ferrite_run.specs.Sites.{ListSites}
+use Rattle.ferrite_run.specs.Repair.{IsRepaired}
 use Rattle.ferrite_run.specs.Answers.{IsReply, IsAnswer, Asks, IsFileOf, IsModelFile}
 use Rattle.ferrite_run.specs.Done.{Done, Tells}
 use Rattle.ferrite_run.specs.Check.{IsChecked}
@@ -103,12 +106,12 @@ pub question_more :
     → ((name : List ℕ) → IsModelFile model name → rose name → more name) → ((q : Question) → Next q a → Then q a)
     → OnQuestion told rose litmus model Next a → OnQuestion told more litmus model Then a
 question_more told rose more litmus model Next Then a from also next =
-    let ask : Test → Trace → PairList → Question = λ t e p. record { events = e; pairs = p; pred = t.pred; want = t.want } in
+    let ask : Test → Model → Trace → PairList → Question = λ t m e p. record { litmus = t; model = m; events = e; pairs = p } in
     litmus_more told rose more litmus _ _ a from
     (λ test. model_more told rose more model _ _ a also
-    (λ read. resolve_more test (λ trace. Keep read trace.events (λ pairs. Next (ask test trace pairs))) (λ trace. Keep read trace.events (λ pairs. Then (ask test trace pairs))) a
-    (λ trace. step_more PairList (λ _. ⊥) (λ _. ⊥) (AreKept read trace.events) (AreKept read trace.events) (λ pairs. Next (ask test trace pairs)) (λ pairs. Then (ask test trace pairs)) a
-    (λ h. h) (λ x h. h) (λ pairs. next (ask test trace pairs)))))
+    (λ read. resolve_more test (λ trace. Keep read trace.events (λ pairs. Next (ask test read trace pairs))) (λ trace. Keep read trace.events (λ pairs. Then (ask test read trace pairs))) a
+    (λ trace. step_more PairList (λ _. ⊥) (λ _. ⊥) (AreKept read trace.events) (AreKept read trace.events) (λ pairs. Next (ask test read trace pairs)) (λ pairs. Then (ask test read trace pairs)) a
+    (λ h. h) (λ x h. h) (λ pairs. next (ask test read trace pairs)))))
 
 pub reply_more :
     (told : Option Held) (rose more : List ℕ → Type 0) (command : Command) (a : Done) → ((name : List ℕ) → IsFileOf command name → rose name → more name)
@@ -125,8 +128,10 @@ reply_more told rose more (Events litmus model) a from h =
     question_more told rose more litmus model (λ q. Tells (IsTable q)) (λ q. Tells (IsTable q)) a (from litmus (inl refl)) (λ name is. from name (inr is)) (λ q h. h) h
 reply_more told rose more (Show litmus) a from h = litmus_more told rose more litmus (λ t. Tells (IsShown t)) (λ t. Tells (IsShown t)) a (from litmus refl) (λ t h. h) h
 reply_more told rose more Models a from h = h
-reply_more told rose more (Repair litmus model with search) a from h = absurd h
-reply_more told rose more (Work seed calls branch) a from h = absurd h
+reply_more told rose more (Repair litmus model with search) a from h =
+    question_more told rose more litmus model (λ q. ListSites q with (λ sites. IsRepaired q with sites search)) (λ q. ListSites q with (λ sites. IsRepaired q with sites search)) a
+    (from litmus (inl refl)) (λ name is. from name (inr is)) (λ q h. h) h
+reply_more told rose more (Work seed calls branch) a from h = h
 reply_more told rose more (Explain litmus model branch) a from h = absurd h
 reply_more told rose more (Hint litmus model log hinted) a from h = absurd h
 reply_more told rose more (Trim litmus model log trimmed) a from h = absurd h

@@ -6,7 +6,7 @@ use Rattle.fer_events.specs.Orders.{AreForward}
 use Rattle.fer_events.specs.Pairs.{PairList}
 use Rattle.model_reader.specs.declared.model.Model.{Model}
 use Rattle.event_relations.specs.Kept.{IsKept}
-use Rattle.ferrite_run.specs.Asking.{AreKept}
+use Rattle.sync_repair.specs.Sets.{AreKept}
 
 pub are_forward :
     ((model : Model) (events : List Event) (a b : ℕ) → IsKept model events a b → (1 ≤ a) × (a < b) × (b ≤ length events))

@@ -15,7 +15,14 @@ use Rattle.proof_log.specs.Logs.{Derivation, Logged}
 use Rattle.ferrite_run.specs.declared.saying.Kept.{Kept}
 use Rattle.ferrite_run.specs.Saying.{kept_in}
 use Rattle.ferrite_run.specs.Done.{Done, Tells}
-use Rattle.ferrite_run.specs.Check.{IsChecked, kept_log}
+use Rattle.litmus_syntax.specs.declared.site.Site.{Site}
+use Rattle.litmus_syntax.specs.declared.site.SiteKind.{SiteKind}
+use Rattle.model_library.specs.Generated.{generated}
+use Rattle.ferrite_run.specs.Sites.{ListSites}
+use Rattle.ferrite_run.specs.Repair.{IsRepaired, sited_log}
+use Rattle.ferrite_run.specs.Repair.IsRepaired.{none_suffice, repaired, unknown as undecided}
+use Rattle.ferrite_run.specs.Work.{IsWorked}
+use Rattle.ferrite_run.specs.Check.{IsChecked, plain_log, kept_log}
 use Rattle.ferrite_run.specs.Check.IsChecked.{allowed, forbidden, unknown}
 use Rattle.ferrite_run.specs.Verify.{IsVerified}
 use Rattle.ferrite_run.specs.Replay.{IsReplayed}
@@ -67,7 +74,7 @@ question_keeps told rose litmus model Next Is done next =
     (λ test. model_keeps told rose model _ Is done
     (λ read. step_keeps Is done
     (λ trace. step_keeps Is done
-    (λ pairs. next (record { events = trace; pairs = pairs; pred = test.pred; want = test.want })))))
+    (λ pairs. next (record { litmus = test; model = read; events = trace; pairs = pairs })))))
 
 log_keeps :
     (told : Option Held) (rose : List ℕ → Type 0) (name : List ℕ) (Next : Logged → Done → Type 0) (Is : List ℕ → Type 0) (done : Done)
@@ -82,14 +89,23 @@ abbrev name_of : Option (List ℕ × List ℕ) → Option (List ℕ)
 name_of None = None
 name_of (Some kept) = Some kept.0
 
-named : (log : Option (List ℕ)) (part : Derivation) (name bytes : List ℕ) → kept_log log part ≡ Some (name, bytes) → log ≡ Some name
-named None part name bytes e = absurd (none_is_none (name, bytes) e)
-named (Some other) part name bytes e = ap name_of e
+named : (log : Option (List ℕ)) (logged : Logged) (name bytes : List ℕ) → kept_log log logged ≡ Some (name, bytes) → log ≡ Some name
+named None logged name bytes e = absurd (none_is_none (name, bytes) e)
+named (Some other) logged name bytes e = ap name_of e
 
 check_keeps : (q : Question) (search : SearchOptions) (done : Done) → IsChecked q search done → Keeps (λ name. search.log ≡ Some name) done
 check_keeps q search done (allowed crash shows rest e) = nothing_kept (λ name. search.log ≡ Some name) done (ap (λ (d : Done). d.kept) e)
-check_keeps q search done (forbidden never part rules refutes e) = λ name bytes f. named search.log part name bytes (sym (ap (λ (d : Done). d.kept) e) ∙ f)
-check_keeps q search done (unknown limit is part rules leaves full e) = λ name bytes f. named search.log part name bytes (sym (ap (λ (d : Done). d.kept) e) ∙ f)
+check_keeps q search done (forbidden never part rules refutes e) = λ name bytes f. named search.log (plain_log part) name bytes (sym (ap (λ (d : Done). d.kept) e) ∙ f)
+check_keeps q search done (unknown limit is part rules leaves full e) = λ name bytes f. named search.log (plain_log part) name bytes (sym (ap (λ (d : Done). d.kept) e) ∙ f)
+
+repair_keeps :
+    (q : Question) (kind : SiteKind) (sites : List Site) (search : SearchOptions) (done : Done) → IsRepaired q kind sites search done
+    → Keeps (λ name. search.log ≡ Some name) done
+repair_keeps q kind sites search done (none_suffice crash reaches e) = nothing_kept (λ name. search.log ≡ Some name) done (ap (λ (d : Done). d.kept) e)
+repair_keeps q kind sites search done (repaired never needs f left needed rules closed e) =
+    λ name bytes is. named search.log (sited_log kind f) name bytes (sym (ap (λ (d : Done). d.kept) e) ∙ is)
+repair_keeps q kind sites search done (undecided limit limited f asked rules leaves e) =
+    λ name bytes is. named search.log (sited_log kind f) name bytes (sym (ap (λ (d : Done). d.kept) e) ∙ is)
 
 reply_keeps : (told : Option Held) (rose : List ℕ → Type 0) (command : Command) (done : Done) → IsReply told rose command done → Keeps (KeepsUnder command) done
 reply_keeps told rose (Check litmus model search) done h =
@@ -103,8 +119,15 @@ reply_keeps told rose (Replay litmus model crash) done h =
 reply_keeps told rose (Events litmus model) done h = question_keeps told rose litmus model (λ q. Tells (IsTable q)) (λ _. ⊥) done (λ q. told_keeps (IsTable q) (λ _. ⊥) done) h
 reply_keeps told rose (Show litmus) done h = litmus_keeps told rose litmus (λ t. Tells (IsShown t)) (λ _. ⊥) done (λ t. told_keeps (IsShown t) (λ _. ⊥) done) h
 reply_keeps told rose Models done h = nothing_kept (λ _. ⊥) done (ap (λ (d : Done). d.kept) h)
-reply_keeps told rose (Repair litmus model with search) done h = absurd h
-reply_keeps told rose (Work seed calls branch) done h = absurd h
+reply_keeps told rose (Repair litmus model with search) done h =
+    question_keeps told rose litmus model (λ q. ListSites q with (λ sites. IsRepaired q with sites search)) (λ name. search.log ≡ Some name) done
+    (λ q. step_keeps (λ name. search.log ≡ Some name) done (λ sites. repair_keeps q with sites search done)) h
+reply_keeps told rose (Work seed calls branch) done h =
+    step_keeps (λ _. ⊥) done
+    (λ read. step_keeps (λ _. ⊥) done
+    (λ trace. step_keeps (λ _. ⊥) done
+    (λ pairs. step_keeps (λ _. ⊥) done
+    (λ sites. told_keeps (IsWorked seed calls (record { litmus = generated seed calls; model = read; events = trace; pairs = pairs }) sites) (λ _. ⊥) done)))) h
 reply_keeps told rose (Explain litmus model branch) done h = absurd h
 reply_keeps told rose (Hint litmus model log hinted) done h = absurd h
 reply_keeps told rose (Trim litmus model log trimmed) done h = absurd h

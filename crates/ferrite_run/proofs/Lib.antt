@@ -14,3 +14,9 @@ pub mod Keeping
 pub mod Ending
 pub mod Forward
 pub mod KeptLogs
+pub mod Repaired
+pub mod Numbers
+pub mod Judged
+pub mod OneRepair
+pub mod OneVerdict
+pub mod SitedLogs

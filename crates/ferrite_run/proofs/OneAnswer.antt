@@ -3,6 +3,12 @@ use Rattle.std.proofs.Common.{◌≡◌, ℕ, List, [], Some, None, inl, inr, sy
 use Rattle.fer_outside.specs.Held.{Held}
 use Rattle.litmus_syntax.specs.Test.{Test}
 use Rattle.fer_events.specs.declared.event.Crash.{Crash}
+use Rattle.litmus_syntax.specs.declared.site.Site.{Site}
+use Rattle.litmus_syntax.specs.declared.site.SiteKind.{SiteKind}
+use Rattle.litmus_syntax.specs.declared.site.SiteKind.TheVariants.{Sync}
+use Rattle.model_library.specs.declared.texts.ShippedModel.TheVariants.{Ext4like}
+use Rattle.model_library.specs.Generated.{generated}
+use Rattle.sync_repair.specs.Sets.{AreKept}
 use Rattle.fer_events.specs.Pairs.{PairList}
 use Rattle.fer_events.specs.Tables.{Trace}
 use Rattle.call_events.specs.Resolved.{HasEvents}
@@ -27,7 +33,10 @@ use Rattle.ferrite_run.specs.Agreeing.Agree.{same, allowed as both_allowed, forb
 use Rattle.ferrite_run.specs.Done.{Done, Tells}
 use Rattle.ferrite_run.specs.Fetching.{IsUnfetched, IsFetched}
 use Rattle.ferrite_run.specs.Reading.{IsNoLitmus, IsNoModel, IsNoCrash, IsNoLog, ReadLitmus, ReadModel, ReadCrash, ReadLog, OnLitmus, OnModel, OnCrash, OnLog}
-use Rattle.ferrite_run.specs.Asking.{IsUnresolved, AreKept, Keep, OnQuestion}
+use Rattle.ferrite_run.specs.Asking.{IsUnresolved, Keep, OnRead, OnTest, OnQuestion}
+use Rattle.ferrite_run.specs.Sites.{HasTooMany, AreSitesOf, ListSites}
+use Rattle.ferrite_run.specs.Repair.{IsRepaired}
+use Rattle.ferrite_run.specs.Work.{IsWorked}
 use Rattle.ferrite_run.specs.Check.{IsChecked}
 use Rattle.ferrite_run.specs.Check.IsChecked.{allowed, forbidden, unknown}
 use Rattle.ferrite_run.specs.Events.{IsTable}
@@ -36,7 +45,9 @@ use Rattle.ferrite_run.specs.Verify.{IsVerified}
 use Rattle.ferrite_run.specs.Replay.{answer_to, IsReplayed}
 use Rattle.ferrite_run.specs.Answers.{IsReply, IsAnswer, IsUsage, Asks}
 use Rattle.ferrite_run.proofs.Rows.{IsOneStep, one_step, one_told}
-use Rattle.ferrite_run.proofs.Single.{Laws, one_fetch, one_litmus_step, one_model_step, one_crash_step, one_log_step, one_verdict, one_resolving, one_keeping}
+use Rattle.ferrite_run.proofs.Single.{Laws, one_fetch, one_litmus_step, one_model_step, one_crash_step, one_log_step, one_resolving, one_keeping}
+use Rattle.ferrite_run.proofs.OneRepair.{one_listing, one_repair, one_work}
+use Rattle.ferrite_run.proofs.OneVerdict.{one_verdict}
 
 one_on_litmus :
     Laws → (all : Held) (name : List ℕ) (Next : Test → Done → Type 0) → ((litmus : Test) (a b : Done) → Next litmus a → Next litmus b → Agree a b)
@@ -54,16 +65,30 @@ one_on_model laws all (File name) Next next =
     one_step (List ℕ) (IsUnfetched (Some all) ⊥ ModelFile name) (IsFetched (Some all) ModelFile name) (λ bytes. ReadModel bytes Next) (one_fetch all ModelFile name)
     (λ bytes. one_step Model (IsNoModel bytes) (IsModelText bytes) Next (one_model_step laws bytes) next)
 
+one_on_read :
+    Laws → (test : Test) (model : Model) (Next : Question → Done → Type 0) → ((q : Question) (a b : Done) → Next q a → Next q b → Agree a b)
+    → (a b : Done) → OnRead test model Next a → OnRead test model Next b → Agree a b
+one_on_read laws test model Next next =
+    let ask : Trace → PairList → Question = λ t p. record { litmus = test; model = model; events = t; pairs = p } in
+    one_step Trace (IsUnresolved test []) (HasEvents test []) (λ trace. Keep model trace.events (λ pairs. Next (ask trace pairs))) (one_resolving laws test [])
+    (λ trace. one_step PairList (λ _. ⊥) (AreKept model trace.events) (λ pairs. Next (ask trace pairs)) (one_keeping model trace.events)
+    (λ pairs. next (ask trace pairs)))
+
+one_on_test :
+    Laws → (all : Held) (test : Test) (model : ModelName) (Next : Question → Done → Type 0) → ((q : Question) (a b : Done) → Next q a → Next q b → Agree a b)
+    → (a b : Done) → OnTest (Some all) (λ _. ⊥) test model Next a → OnTest (Some all) (λ _. ⊥) test model Next b → Agree a b
+one_on_test laws all test model Next next = one_on_model laws all model (λ read. OnRead test read Next) (λ read. one_on_read laws test read Next next)
+
 one_on_question :
     Laws → (all : Held) (litmus : List ℕ) (model : ModelName) (Next : Question → Done → Type 0) → ((q : Question) (a b : Done) → Next q a → Next q b → Agree a b)
     → (a b : Done) → OnQuestion (Some all) (λ _. ⊥) litmus model Next a → OnQuestion (Some all) (λ _. ⊥) litmus model Next b → Agree a b
 one_on_question laws all litmus model Next next =
-    let ask : Test → Trace → PairList → Question = λ t e p. record { events = e; pairs = p; pred = t.pred; want = t.want } in
-    one_on_litmus laws all litmus _
-    (λ test. one_on_model laws all model _
-    (λ read. one_step Trace (IsUnresolved test []) (HasEvents test []) (λ trace. Keep read trace.events (λ pairs. Next (ask test trace pairs))) (one_resolving laws test [])
-    (λ trace. one_step PairList (λ _. ⊥) (AreKept read trace.events) (λ pairs. Next (ask test trace pairs)) (one_keeping read trace.events)
-    (λ pairs. next (ask test trace pairs)))))
+    one_on_litmus laws all litmus (λ test. OnTest (Some all) (λ _. ⊥) test model Next) (λ test. one_on_test laws all test model Next next)
+
+one_on_sites :
+    Laws → (q : Question) (kind : SiteKind) (Next : List Site → Done → Type 0) → ((sites : List Site) (a b : Done) → Next sites a → Next sites b → Agree a b)
+    → (a b : Done) → ListSites q kind Next a → ListSites q kind Next b → Agree a b
+one_on_sites laws q kind Next next = one_step (List Site) (HasTooMany q kind) (AreSitesOf q kind) Next (one_listing laws q kind) next
 
 one_on_crash :
     Laws → (all : Held) (name : List ℕ) (Next : Crash → Done → Type 0) → ((crash : Crash) (a b : Done) → Next crash a → Next crash b → Agree a b)
@@ -81,7 +106,7 @@ one_on_log laws all name Next next =
 
 one_replay : Laws → (q : Question) (crash : Crash) (a b : Done) → Tells (IsReplayed q crash) a → Tells (IsReplayed q crash) b → Agree a b
 one_replay laws q crash a b ((judgement, judged, e), none) ((other, also, f), nothing) =
-    same (one_told a b (e ∙ ap answer_to (laws.one_judgement q.events q.pairs.pairs q.pred q.want crash judgement other judged also) ∙ sym f) none nothing)
+    same (one_told a b (e ∙ ap answer_to (laws.one_judgement q.events q.pairs.pairs q.litmus.pred q.litmus.want crash judgement other judged also) ∙ sym f) none nothing)
 
 one_verify : Laws → (q : Question) (log : Logged) (a b : Done) → Tells (IsVerified q log) a → Tells (IsVerified q log) b → Agree a b
 one_verify laws q log a b (h, none) (g, nothing) = same (one_told a b (one_verdict laws q log a.answer b.answer h g) none nothing)
@@ -107,8 +132,12 @@ one_reply laws all (Replay litmus model crash) a b h g =
 one_reply laws all (Events litmus model) a b h g = one_on_question laws all litmus model (λ q. Tells (IsTable q)) (λ q x y (e, none) (f, nothing). one_tell x y (EventTable q.events q.pairs) e none f nothing) a b h g
 one_reply laws all (Show litmus) a b h g = one_on_litmus laws all litmus (λ t. Tells (IsShown t)) (λ t x y (e, none) (f, nothing). one_tell x y (ShownTest (record t { version = 2 })) e none f nothing) a b h g
 one_reply laws all Models a b h g = same (h ∙ sym g)
-one_reply laws all (Repair litmus model with search) a b h g = absurd h
-one_reply laws all (Work seed calls branch) a b h g = absurd h
+one_reply laws all (Repair litmus model with search) a b h g =
+    one_on_question laws all litmus model (λ q. ListSites q with (λ sites. IsRepaired q with sites search))
+    (λ q. one_on_sites laws q with (λ sites. IsRepaired q with sites search) (λ sites. one_repair q with sites search)) a b h g
+one_reply laws all (Work seed calls branch) a b h g =
+    one_on_test laws all (generated seed calls) (Shipped Ext4like) (λ q. ListSites q Sync (λ sites. Tells (IsWorked seed calls q sites)))
+    (λ q. one_on_sites laws q Sync (λ sites. Tells (IsWorked seed calls q sites)) (λ sites. one_work seed calls q sites)) a b h g
 one_reply laws all (Explain litmus model branch) a b h g = absurd h
 one_reply laws all (Hint litmus model log hinted) a b h g = absurd h
 one_reply laws all (Trim litmus model log trimmed) a b h g = absurd h

@@ -1,6 +1,6 @@
 -- Answers that are ready to be written.
 use Rattle.std.proofs.Common.{◌≡◌, ◌<◌, Result, Ok, Err, IfErr, IsErrAnd, refl, sym, subst, arith}
-use Rattle.report.specs.Answers.{Answer, Allowed, Forbidden, Unknown, LogAccepted, LogRefused, CrashAccepted, CrashRefused, CrashUnread, EventTable, Shown, Models, Usage, LitmusRefused, ModelRefused, ReadFault, Missing}
+use Rattle.report.specs.Answers.{Answer, Allowed, Forbidden, Unknown, Repaired, NoneSuffice, Work, LogAccepted, LogRefused, CrashAccepted, CrashRefused, CrashUnread, EventTable, Shown, Models, Usage, LitmusRefused, ModelRefused, ReadFault, Missing}
 use Rattle.ferrite_run.specs.declared.saying.Said.{Said}
 use Rattle.ferrite_run.specs.declared.saying.Stop.{Stop}
 use Rattle.ferrite_run.specs.declared.saying.Stop.TheVariants.{Answered, OutOfMemory}
@@ -13,6 +13,9 @@ pub status_below : (a : Answer) → status_of a < 8
 status_below (Allowed crash) = omega arith
 status_below Forbidden = omega arith
 status_below (Unknown limit) = omega arith
+status_below (Repaired needs litmus) = omega arith
+status_below (NoneSuffice crash litmus) = omega arith
+status_below (Work summary) = omega arith
 status_below (LogAccepted sites) = omega arith
 status_below (LogRefused line kind) = omega arith
 status_below CrashAccepted = omega arith

@@ -15,7 +15,7 @@ use Rattle.event_relations.specs.Words.Relates.{earlier}
 use Rattle.event_relations.specs.Meaning.Means.{word}
 use Rattle.event_relations.proofs.Within.{kept_within}
 use Rattle.fer_events.proofs.PairLaws.{has_self, has_only}
-use Rattle.ferrite_run.specs.Asking.{AreKept}
+use Rattle.sync_repair.specs.Sets.{AreKept}
 use Rattle.ferrite_run.proofs.PairsOfAll.{is_forward, all_forward}
 use Rattle.ferrite_run.proofs.Single.{same_truth}
 use Rattle.ferrite_run.proofs.SequentialText.{program_order_model, is_read}

@@ -33,17 +33,13 @@ use Rattle.proof_log.specs.declared.fault.LogKind.{LogKind}
 use Rattle.proof_log.specs.Kinds as log_kind
 use Rattle.proof_log.specs.Logs.{Logged}
 use Rattle.proof_log.specs.LogFiles.{IsLogText, IsLogRefused}
-use Rattle.rup_checker.specs.declared.judgement.JudgeKind.{JudgeKind}
 use Rattle.rup_checker.specs.declared.judgement.Judgement.{Judgement}
-use Rattle.rup_checker.specs.declared.judgement.Judgement.TheVariants.{Accepted, Refused}
-use Rattle.rup_checker.specs.Kinds as check_kind
 use Rattle.rup_checker.specs.Accepting as log_check
-use Rattle.ferrite_run.specs.declared.question.Question.{Question}
-use Rattle.ferrite_run.specs.Check.{formula_of}
-use Rattle.ferrite_run.specs.Verify.{IsVerified}
-use Rattle.ferrite_run.specs.Verify.IsVerified.{accepted, refused, sited}
+use Rattle.litmus_syntax.specs.declared.call.Step.{Step}
+use Rattle.sync_sites.specs.SiteLists.{AreTooMany}
+use Rattle.sync_repair.specs.Sets.{AreKept, AreKeptWith}
 use Rattle.ferrite_run.specs.Reading.{IsNoLitmus, IsNoModel, IsNoCrash, IsNoLog}
-use Rattle.ferrite_run.specs.Asking.{IsUnresolved, AreKept}
+use Rattle.ferrite_run.specs.Asking.{IsUnresolved}
 use Rattle.ferrite_run.proofs.Rows.{IsOneStep}
 
 some_bytes : (a b : List ℕ) → Some a ≡ Some b → a ≡ b
@@ -97,8 +93,11 @@ pub record Laws : Type 0 where
   pub one_log_refusal : (bytes : List ℕ) (i j : ℕ) (k m : LogKind) → IsLogRefused bytes i k → IsLogRefused bytes j m → (i ≡ j) × (k ≡ m)
   pub log_or_refused : (bytes : List ℕ) (a : Logged) (i : ℕ) (k : LogKind) → IsLogText bytes a → IsLogRefused bytes i k → ⊥
   pub one_check : (formula : Formula) (log : Logged) (a b : Judgement) → log_check.IsJudged formula log a → log_check.IsJudged formula log b → a ≡ b
+  pub one_line : (kind : SiteKind) (body : List Step) (t : Trace) (i j : ℕ) → AreTooMany kind body t i → AreTooMany kind body t j → i ≡ j
+  pub one_list : (litmus : Test) (model : Model) (sites : List Site) (set : List Bool) (all : Trace) (p q : PairList)
+      → AreKeptWith litmus model sites set all p → AreKeptWith litmus model sites set all q → p ≡ q
 
-one_refusal : (make : ℕ → ℕ → Answer) (i j k m : ℕ) → i ≡ j → k ≡ m → make i k ≡ make j m
+pub one_refusal : (make : ℕ → ℕ → Answer) (i j k m : ℕ) → i ≡ j → k ≡ m → make i k ≡ make j m
 one_refusal make i j k m e f = ap (λ (n : ℕ). make n k) e ∙ ap (make j) f
 
 pub one_litmus_step : Laws → (bytes : List ℕ) → IsOneStep Test (IsNoLitmus bytes) (IsLitmusText bytes)
@@ -135,36 +134,6 @@ one_log_step laws bytes = record {
   apart = λ a x (i, k, h, e) is. laws.log_or_refused bytes x i k is h;
 }
 
-no_kind : (kind : SiteKind) → None ≡ Some kind → ⊥
-no_kind kind e = cc
-
--- the line and the number of a judgement's kind
-judged_line : Judgement → ℕ
-judged_line Accepted = 0
-judged_line (Refused line kind) = line
-
-judged_kind : Judgement → ℕ
-judged_kind Accepted = 0
-judged_kind (Refused line kind) = check_kind.kind_number kind
-
-not_accepted : (line : ℕ) (kind : JudgeKind) → Accepted ≡ Refused line kind → ⊥
-not_accepted line kind e = cc
-
--- a log is answered in one way
-pub one_verdict : Laws → (q : Question) (log : Logged) (a b : Answer) → IsVerified q log a → IsVerified q log b → a ≡ b
-unfolding judged_line judged_kind
-one_verdict laws q log a b (accepted plain is none e) (accepted also was never f) = e ∙ sym f
-one_verdict laws q log a b (accepted plain is none e) (refused also line kind was f) = absurd (not_accepted line kind (laws.one_check (formula_of q) log Accepted (Refused line kind) is was))
-one_verdict laws q log a b (accepted plain is none e) (sited kind with f) = absurd (no_kind kind (sym plain ∙ with))
-one_verdict laws q log a b (refused plain line kind is e) (accepted also was never f) = absurd (not_accepted line kind (laws.one_check (formula_of q) log Accepted (Refused line kind) was is))
-one_verdict laws q log a b (refused plain line kind is e) (refused also other sort was f) =
-    let one = laws.one_check (formula_of q) log (Refused line kind) (Refused other sort) is was in
-    e ∙ one_refusal LogRefused line other (check_kind.kind_number kind) (check_kind.kind_number sort) (ap judged_line one) (ap judged_kind one) ∙ sym f
-one_verdict laws q log a b (refused plain line kind is e) (sited sort with f) = absurd (no_kind sort (sym plain ∙ with))
-one_verdict laws q log a b (sited kind with e) (accepted plain was never f) = absurd (no_kind kind (sym plain ∙ with))
-one_verdict laws q log a b (sited kind with e) (refused plain line sort was f) = absurd (no_kind kind (sym plain ∙ with))
-one_verdict laws q log a b (sited kind with e) (sited sort too f) = e ∙ sym f
-
 pub one_resolving : Laws → (litmus : Test) (sites : List Site) → IsOneStep Trace (IsUnresolved litmus sites) (HasEvents litmus sites)
 one_resolving laws litmus sites = record {
   one_end = λ a b (i, k, h, e) (j, m, g, f).
@@ -184,7 +153,7 @@ same_truth false false f g = refl
 also : (model : Model) (events : List Event) (p q : PairList) → AreKept model events p → AreKept model events q → (a b : ℕ) → has_pair p.pairs a b ≡ true → has_pair q.pairs a b ≡ true
 also model events p q h g a b e = has_self q.pairs (a, b) ((g.exactly a b).1 ((h.exactly a b).0 (has_only p.pairs a b e)))
 
-one_kept : (model : Model) (events : List Event) (p q : PairList) → AreKept model events p → AreKept model events q → p ≡ q
+pub one_kept : (model : Model) (events : List Event) (p q : PairList) → AreKept model events p → AreKept model events q → p ≡ q
 one_kept model events p q h g =
     let make : ℕ → List (ℕ × ℕ) → PairList = λ k l. record { n = k; pairs = l } in
     let n : p.n ≡ q.n = h.counted ∙ sym g.counted in

@@ -1,16 +1,16 @@
 -- The steps that all commands on a litmus file and a model begin with.
-use Rattle.std.specs.Prelude.{◌≡◌, ◌↔◌, ℕ, List, [], length, Option, Contains}
+use Rattle.std.specs.Prelude.{◌≡◌, ℕ, List, [], Option}
 use Rattle.fer_outside.specs.Held.{Held}
 use Rattle.litmus_syntax.specs.Test.{Test}
 use Rattle.litmus_syntax.specs.declared.site.Site.{Site}
 use Rattle.fer_events.specs.declared.event.Event.{Event}
-use Rattle.fer_events.specs.Pairs.{PairList, IsListed}
+use Rattle.fer_events.specs.Pairs.{PairList}
 use Rattle.fer_events.specs.Tables.{Trace}
 use Rattle.call_events.specs.declared.call_kind.CallKind.{CallKind}
 use Rattle.call_events.specs.Refusals.{kind_number}
 use Rattle.call_events.specs.Resolved.{HasEvents, IsCallRefused}
 use Rattle.model_reader.specs.declared.model.Model.{Model}
-use Rattle.event_relations.specs.Kept.{IsKept}
+use Rattle.sync_repair.specs.Sets.{AreKept}
 use Rattle.command_line.specs.declared.commands.ModelName.{ModelName}
 use Rattle.report.specs.Answers.{Answer, LitmusRefused}
 use Rattle.ferrite_run.specs.declared.question.Question.{Question}
@@ -26,21 +26,21 @@ IsUnresolved litmus sites answer = (line : ℕ) × (kind : CallKind) × IsCallRe
 abbrev pub Resolve : Test → List Site → (Trace → Done → Type 0) → Done → Type 0
 Resolve litmus sites Next done = Step Trace (IsUnresolved litmus sites) (HasEvents litmus sites) Next done
 
--- these are the pairs of the events that the model keeps
-pub record AreKept (model : Model) (events : List Event) (pairs : PairList) : Type 0 where
-  pub counted : pairs.n ≡ length events
-  pub listed : IsListed pairs
-  pub exactly : (a b : ℕ) → Contains pairs.pairs (a, b) ↔ IsKept model events a b
-
 -- the model says which pairs of the events are kept
 abbrev pub Keep : Model → List Event → (PairList → Done → Type 0) → Done → Type 0
 Keep model events Next done = Step PairList (λ _. ⊥) (AreKept model events) Next done
 
--- the litmus file, then the model, then the events of the test, and those pairs of them that the model keeps
+-- the events of a test, and those pairs of them that the model keeps
+abbrev pub OnRead : Test → Model → (Question → Done → Type 0) → Done → Type 0
+OnRead test model Next done =
+    Resolve test []
+    (λ trace. Keep model trace.events
+    (λ pairs. Next (record { litmus = test; model = model; events = trace; pairs = pairs }))) done
+
+-- the model, and then the test under it
+abbrev pub OnTest : Option Held → (List ℕ → Type 0) → Test → ModelName → (Question → Done → Type 0) → Done → Type 0
+OnTest told rose test model Next done = OnModel told rose model (λ read. OnRead test read Next) done
+
+-- the litmus file, and then its test
 abbrev pub OnQuestion : Option Held → (List ℕ → Type 0) → List ℕ → ModelName → (Question → Done → Type 0) → Done → Type 0
-OnQuestion told rose litmus model Next done =
-    OnLitmus told rose litmus
-    (λ test. OnModel told rose model
-    (λ read. Resolve test []
-    (λ trace. Keep read trace.events
-    (λ pairs. Next (record { events = trace; pairs = pairs; pred = test.pred; want = test.want }))))) done
+OnQuestion told rose litmus model Next done = OnLitmus told rose litmus (λ test. OnTest told rose test model Next) done

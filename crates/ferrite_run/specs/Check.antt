@@ -15,7 +15,7 @@ use Rattle.ferrite_run.specs.Done.{Done, only}
 
 -- the crash keeps what has to be kept, and it answers the question
 abbrev pub Shows : Question → Crash → Type 0
-Shows q crash = IsWitness q.events q.pairs.pairs q.pred q.want crash
+Shows q crash = IsWitness q.events q.pairs.pairs q.litmus.pred q.litmus.want crash
 
 -- some crash answers the question
 abbrev pub IsAllowed : Question → Type 0
@@ -27,15 +27,15 @@ RestAscends crash = IsStrictlyIncreasing (drop crash.cut crash.order)
 
 -- the question as clauses
 abbrev pub formula_of : Question → Formula
-formula_of q = coding q.events q.pairs.pairs q.pred q.want
+formula_of q = coding q.events q.pairs.pairs q.litmus.pred q.litmus.want
 
 -- the log of these clauses, which is made without any syncs
 abbrev pub plain_log : Derivation → Logged
 plain_log part = record { kind = None; sites = []; part = part; question = None }
 
--- that log's text, under the name that is given for it, if one is
-abbrev pub kept_log : Option (List ℕ) → Derivation → Option (List ℕ × List ℕ)
-kept_log name part = option_map (λ n. (n, log_text (plain_log part))) name
+-- a log's text, under the name that is given for it, if one is
+abbrev pub kept_log : Option (List ℕ) → Logged → Option (List ℕ × List ℕ)
+kept_log name log = option_map (λ n. (n, log_text log)) name
 
 -- a crash answers the question, and it is shown; or none does, which is shown by a log that refutes the question's clauses; or
 -- as many clauses as allowed were learned, and the log of them leaves the question's clauses open
@@ -43,7 +43,7 @@ pub data IsChecked (q : Question) (search : SearchOptions) (done : Done) : Type 
   allowed : (crash : Crash) → Shows q crash → RestAscends crash → done ≡ only (Allowed crash) → IsChecked q search done
   forbidden :
       (IsAllowed q → ⊥) → (part : Derivation) → IsDerivation part → IsRefutation (formula_of q) part
-      → done ≡ record { answer = Forbidden; kept = kept_log search.log part } → IsChecked q search done
+      → done ≡ record { answer = Forbidden; kept = kept_log search.log (plain_log part) } → IsChecked q search done
   unknown :
       (limit : ℕ) → search.conflicts ≡ Some limit → (part : Derivation) → IsDerivation part → IsOpenPart (formula_of q) part
-      → length part.learned ≡ limit → done ≡ record { answer = Unknown limit; kept = kept_log search.log part } → IsChecked q search done
+      → length part.learned ≡ limit → done ≡ record { answer = Unknown limit; kept = kept_log search.log (plain_log part) } → IsChecked q search done

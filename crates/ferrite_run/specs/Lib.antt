@@ -3,7 +3,10 @@ pub mod Steps
 pub mod Fetching
 pub mod Reading
 pub mod Asking
+pub mod Sites
 pub mod Check
+pub mod Repair
+pub mod Work
 pub mod Events
 pub mod Show
 pub mod Replay
@@ -18,3 +21,5 @@ pub mod Yields
 pub mod Agreeing
 pub mod Choices
 pub mod Found
+pub mod Judging
+pub mod Usable

@@ -15,4 +15,4 @@ answer_to judgement = CrashRefused judgement
 -- the crash is judged against the question
 abbrev pub IsReplayed : Question → Crash → Answer → Type 0
 IsReplayed q crash answer =
-    (judgement : CrashJudgement) × IsJudged q.events q.pairs.pairs q.pred q.want crash judgement × (answer ≡ answer_to judgement)
+    (judgement : CrashJudgement) × IsJudged q.events q.pairs.pairs q.litmus.pred q.litmus.want crash judgement × (answer ≡ answer_to judgement)

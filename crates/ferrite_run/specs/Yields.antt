@@ -16,7 +16,7 @@ use Rattle.command_line.specs.declared.commands.ModelName.TheVariants.{Shipped, 
 use Rattle.report.specs.declared.outcome.Role.TheVariants.{LitmusFile, ModelFile, LogFile, CrashFile}
 use Rattle.ferrite_run.specs.declared.question.Question.{Question}
 use Rattle.ferrite_run.specs.Fetching.{IsFetched}
-use Rattle.ferrite_run.specs.Asking.{AreKept}
+use Rattle.sync_repair.specs.Sets.{AreKept}
 
 -- the test that the litmus file of this name is
 abbrev pub IsLitmusOf : Option Held → List ℕ → Test → Type 0
@@ -31,8 +31,8 @@ IsModelOf told (File name) model = (bytes : List ℕ) × IsFetched told ModelFil
 pub record IsAskedOf (test : Test) (model : Model) (q : Question) : Type 0 where
   pub resolved : HasEvents test [] q.events
   pub kept : AreKept model q.events.events q.pairs
-  pub pred : q.pred ≡ test.pred
-  pub want : q.want ≡ test.want
+  pub litmus : q.litmus ≡ test
+  pub model_of : q.model ≡ model
 
 -- the question that is asked of a litmus file and a model
 pub record IsQuestionOf (told : Option Held) (litmus : List ℕ) (name : ModelName) (q : Question) : Type 0 where

@@ -1,7 +1,8 @@
 ghost use Rattle.std.specs.Prelude.{◌≡◌, ℕ, ◌≤◌, List, [], IfOk, IfErr};
 ghost use Rattle.fer_outside.specs.Causes.{Rose};
 ghost use Rattle.call_events.specs.Resolved.{HasEvents};
-ghost use Rattle.ferrite_run.specs.Asking.{IsUnresolved, AreKept, OnQuestion};
+ghost use Rattle.sync_repair.specs.Sets.{AreKept};
+ghost use Rattle.ferrite_run.specs.Asking.{IsUnresolved, OnQuestion};
 ghost use Rattle.ferrite_run.specs.Done.{Tells};
 ghost use Rattle.ferrite_run.specs.Yields.{IsAskedOf, IsQuestionOf};
 ghost use Rattle.ferrite_run.specs.Saying.{StopsWith};
@@ -14,7 +15,7 @@ use command_line::{FileName, ModelName};
 use event_relations::kept;
 use fer_events::{Events, Pairs};
 use fer_outside::Library;
-use litmus_syntax::{Litmus, copy_pred};
+use litmus_syntax::Litmus;
 use model_reader::Model;
 use report::Outcome;
 use std::alloc::{AllocError, Global};
@@ -35,7 +36,7 @@ fn events_of(alloc: Global, litmus: &Litmus) -> Result<Events, Stop>
 }
 
 /// The pairs of the events that the model keeps.
-fn pairs_of(alloc: Global, events: &Events, model: &Model) -> Result<Pairs, AllocError>
+pub fn pairs_of(alloc: Global, events: &Events, model: &Model) -> Result<Pairs, AllocError>
     ensures kept { IfOk result (λ pairs. AreKept model.now events.now.events pairs) }
 {
     let pairs = kept(alloc, model, events)?;
@@ -44,18 +45,17 @@ fn pairs_of(alloc: Global, events: &Events, model: &Model) -> Result<Pairs, Allo
 }
 
 /// The question that is asked of a test and a model.
-fn asked_of(alloc: Global, test: &Litmus, model: &Model) -> Result<Question, Stop>
-    ensures asked { IfOk result (IsAskedOf test.now model.now) }
-    ensures unasked { IfErr result (StopsWith (Tells (IsUnresolved test.now []))) }
+pub fn asked_of(alloc: Global, litmus: Litmus, model: Model) -> Result<Question, Stop>
+    ensures asked { IfOk result (IsAskedOf litmus model) }
+    ensures unasked { IfErr result (StopsWith (Tells (IsUnresolved litmus []))) }
 {
-    let events = events_of(alloc, test)?;
-    let pairs = pairs_of(alloc, &events, model)?;
-    let pred = copy_pred(alloc, test.pred())?;
+    let events = events_of(alloc, &litmus)?;
+    let pairs = pairs_of(alloc, &events, &model)?;
     Ok(Question {
+        litmus,
+        model,
         events,
         pairs,
-        pred,
-        want: test.want(),
     })
 }
 
@@ -73,6 +73,6 @@ pub fn question_of<L: Library>(
 {
     let test = litmus_of(alloc, litmus, library)?;
     let model = model_of(alloc, model, library)?;
-    let question = asked_of(alloc, &test, &model)?;
+    let question = asked_of(alloc, test, model)?;
     Ok(question)
 }

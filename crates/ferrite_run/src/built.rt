@@ -9,11 +9,13 @@ pub fn is_built(command: &Command) -> bool
 {
     match command {
         Command::Check { .. }
+        | Command::Repair { .. }
         | Command::Verify { .. }
         | Command::Replay { .. }
         | Command::Events { .. }
         | Command::Show { .. }
-        | Command::Models => true,
+        | Command::Models
+        | Command::Work { .. } => true,
         _ => false,
     }
 }

@@ -1,15 +1,16 @@
-ghost use Rattle.std.specs.Prelude.{◌≡◌, ℕ, ◌≤◌, ◌<◌, List, length, option_map, unwrap_or, IfOk};
+ghost use Rattle.std.specs.Prelude.{◌≡◌, ℕ, ◌≤◌, List, length};
 ghost use Rattle.fer_outside.specs.Causes.{Rose};
 ghost use Rattle.fer_events.specs.Orders.{AreForward};
 ghost use Rattle.report.specs.Answers.{IsPrintable};
 ghost use Rattle.report.specs.Outcomes.{answer_of};
 ghost use Rattle.ferrite_run.specs.Asking.{OnQuestion};
-ghost use Rattle.ferrite_run.specs.Check.{IsChecked, kept_log};
-ghost use Rattle.ferrite_run.specs.Saying.{Replies, kept_in};
+ghost use Rattle.ferrite_run.specs.Check.{IsChecked, plain_log, kept_log};
+ghost use Rattle.ferrite_run.specs.Saying.{Replies};
 
 use crate::asking::question_of;
+use crate::logging::{most_learned, replied_with};
 use crate::question::Question;
-use crate::saying::{Kept, Said, Stop, replied, say};
+use crate::saying::{Said, Stop, replied};
 use branch_rules::Brancher;
 use command_line::{FileName, ModelName, SearchOptions};
 use crash_question::{Answer, ask};
@@ -17,54 +18,20 @@ use event_relations::kept_pairs_are_forward;
 use fer_outside::Library;
 use proof_log::{Log, Part};
 use report::Outcome;
-use std::alloc::{AllocError, Global};
+use std::alloc::Global;
 
-/// How many clauses may be learned. Without a limit, so many never come.
-fn most_learned(search: &SearchOptions) -> u64
-    ensures { result ≡ unwrap_or search.now.conflicts 18446744073709551615 }
-{
-    match search.conflicts {
-        None => u64::MAX,
-        Some(limit) => u64::from(limit),
-    }
-}
-
-/// The log of a part, to be kept under this name.
-fn log_under(alloc: Global, name: &FileName, part: Part) -> Result<Kept, AllocError>
-    ensures { IfOk result (λ kept. kept_in (Some kept) ≡ kept_log (Some name.now) part) }
-{
-    let log = Log::of_part(alloc, part);
-    let bytes = proof_log::print(alloc, &log)?;
-    let name = FileName::new(alloc, name.as_str())?;
-    Ok(Kept { name, bytes })
-}
-
-/// The log of a part, to be kept under the name that is given for it, if one is.
-fn log_for(alloc: Global, search: &SearchOptions, part: Part) -> Result<Option<Kept>, AllocError>
-    ensures { IfOk result (λ kept. kept_in kept ≡ kept_log search.now.log part) }
-{
-    match &search.log {
-        None => Ok(None),
-        Some(name) => {
-            let kept = log_under(alloc, name, part)?;
-            Ok(Some(kept))
-        }
-    }
-}
-
-/// The answer with the log of a part.
-fn replied_with(
+/// The answer with the log of a part, which is made without syncs.
+fn replied_plainly(
     alloc: Global,
     outcome: &Outcome<'_>,
     search: &SearchOptions,
     part: Part,
 ) -> Result<Said, Stop>
     requires printable { IsPrintable (answer_of outcome.now) }
-    ensures replied { Replies (λ done. done ≡ record { answer = answer_of outcome.now; kept = kept_log search.now.log part }) result }
+    ensures replied { Replies (λ done. done ≡ record { answer = answer_of outcome.now; kept = kept_log search.now.log (plain_log part) }) result }
 {
-    let kept = log_for(alloc, search, part)?;
-    let Said { status, text, .. } = say(alloc, outcome)?;
-    Ok(Said { status, text, kept })
+    let log = Log::of_part(alloc, part);
+    replied_with(alloc, outcome, search, &log)
 }
 
 /// Whether a crash answers the question.
@@ -82,21 +49,21 @@ fn verdict(
         alloc,
         &question.events,
         &question.pairs,
-        &question.pred,
-        question.want,
+        question.litmus.pred(),
+        question.litmus.want(),
         most_learned(search),
         brancher,
     )? {
         Answer::Allowed(crash) => replied(alloc, &Outcome::Allowed { crash: &crash }),
         Answer::Forbidden(part) => {
             part.keeps_rules();
-            replied_with(alloc, &Outcome::Forbidden, search, part)
+            replied_plainly(alloc, &Outcome::Forbidden, search, part)
         }
         Answer::Spent(part) => {
             part.keeps_rules();
             match search.conflicts {
                 None => unreachable!(),
-                Some(limit) => replied_with(alloc, &Outcome::Unknown { limit }, search, part),
+                Some(limit) => replied_plainly(alloc, &Outcome::Unknown { limit }, search, part),
             }
         }
     }

@@ -28,7 +28,10 @@ fn place_of(command: &Command) -> usize
     ensures place { result ≡ place_of command.now }
 {
     match command {
-        Command::Check { search, .. } => search.branch.unwrap_or(0),
+        Command::Check { search, .. } | Command::Repair { search, .. } => {
+            search.branch.unwrap_or(0)
+        }
+        Command::Work { branch, .. } => branch.unwrap_or(0),
         _ => 0,
     }
 }

@@ -1,13 +1,13 @@
 use fer_events::{Events, Pairs};
-use litmus_syntax::Pred;
+use litmus_syntax::Litmus;
+use model_reader::Model;
 
-/// What commands on a litmus file and a model are about: the events of the test, those pairs of them that the model keeps,
-/// and what is asked of a crash.
+/// What commands on a litmus file and a model are about: the test, the model, the events of the test, and those pairs of them
+/// that the model keeps.
 #[derive(Debug, Drop)]
 pub struct Question {
+    pub litmus: Litmus,
+    pub model: Model,
     pub events: Events,
     pub pairs: Pairs,
-    pub pred: Pred,
-    /// Whether a crash is looked for after which the predicate is true, or one after which it is false.
-    pub want: bool,
 }

@@ -2,6 +2,7 @@ ghost use Rattle.std.specs.Prelude.{◌≡◌, ℕ, ◌≤◌, List, IfOk, IfErr
 ghost use Rattle.fer_outside.specs.Causes.{Rose};
 ghost use Rattle.litmus_reader.specs.LitmusText.{IsLitmusText};
 ghost use Rattle.model_reader.specs.ModelText.{IsModelText};
+ghost use Rattle.model_library.specs.ShippedModels.{shipped_text};
 ghost use Rattle.witness_replay.specs.CrashFiles.{IsCrashText};
 ghost use Rattle.proof_log.specs.LogFiles.{IsLogText};
 ghost use Rattle.command_line.specs.declared.commands.ModelName.TheVariants.{File};
@@ -17,6 +18,7 @@ use fer_events::Crash;
 use fer_outside::Library;
 use litmus_reader::LitmusFault;
 use litmus_syntax::Litmus;
+use model_library::ShippedModel;
 use model_reader::{Model, ModelFault};
 use proof_log::{Log, LogFault};
 use report::{Outcome, Role};
@@ -93,6 +95,15 @@ fn model_in<L: Library>(alloc: Global, name: &FileName, library: &mut L) -> Resu
     Ok(model)
 }
 
+/// A model that comes with Ferrite.
+pub fn shipped_model(alloc: Global, shipped: ShippedModel) -> Result<Model, Stop>
+    ensures read { IfOk result (λ model. IsModelText (shipped_text shipped) model) }
+    ensures unread { IfErr result (StopsWith (Tells (IsNoModel (shipped_text shipped)))) }
+{
+    let model = read_model(alloc, shipped.text().as_bytes())?;
+    Ok(model)
+}
+
 /// The model that a command names.
 pub fn model_of<L: Library>(alloc: Global, name: &ModelName, library: &mut L) -> Result<Model, Stop>
     ensures read { IfOk result (λ model. IsModelOf (L.held library.old) name.now model) }
@@ -102,7 +113,7 @@ pub fn model_of<L: Library>(alloc: Global, name: &ModelName, library: &mut L) ->
 {
     match name {
         ModelName::Shipped(shipped) => {
-            let model = read_model(alloc, shipped.text().as_bytes())?;
+            let model = shipped_model(alloc, *shipped)?;
             Ok(model)
         }
         ModelName::File(name) => {

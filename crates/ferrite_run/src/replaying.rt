@@ -41,8 +41,8 @@ fn replay_crash(alloc: Global, question: &Question, crash: &Crash) -> Result<Sai
     let judgement = judge(
         events,
         &question.pairs,
-        &question.pred,
-        question.want,
+        question.litmus.pred(),
+        question.litmus.want(),
         crash,
         &mut scratch,
     );

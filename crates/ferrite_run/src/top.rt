@@ -1,9 +1,9 @@
-ghost use Rattle.std.specs.Prelude.{◌≡◌, ◌⊎◌, ℕ, ◌≤◌, ◌<◌, List, Some, IfOk};
+ghost use Rattle.std.specs.Prelude.{◌≡◌, ◌⊎◌, ℕ, ◌≤◌, ◌<◌, List, Some, IfOk, IfSome};
 ghost use Rattle.fer_outside.specs.Causes.{Rose};
 ghost use Rattle.command_line.specs.declared.commands.Command.{Command};
 ghost use Rattle.ferrite_run.specs.Built.{IsBuilt};
 ghost use Rattle.ferrite_run.specs.Choices.{choice_words};
-ghost use Rattle.ferrite_run.specs.Found.{IsFound, IsFoundReply};
+ghost use Rattle.ferrite_run.specs.Found.{IsFound, IsFoundReply, IsInRange};
 ghost use Rattle.ferrite_run.specs.Done.{Done};
 ghost use Rattle.ferrite_run.specs.Answers.{Asks, IsReply, IsAnswer, IsFileOf, KeepsUnder};
 ghost use Rattle.ferrite_run.specs.Delivering.{IsWhole, IsCutShort};
@@ -14,10 +14,12 @@ use crate::checking::check;
 use crate::choices::{Choice, taken, words_of};
 use crate::delivering::{OUT_OF_MEMORY, deliver};
 use crate::listing::list;
+use crate::repairing::repair;
 use crate::replaying::replay;
 use crate::saying::{Said, Stop, replied, say};
 use crate::showing::show;
 use crate::verifying::verify;
+use crate::working::work;
 use branch_rules::Brancher;
 use command_line::{Command, Words, command_of, one_command};
 use fer_outside::{Library, Sink};
@@ -32,6 +34,7 @@ fn reply<L: Library>(
     brancher: &mut Option<Box<dyn Brancher>>,
 ) -> Result<Said, Stop>
     requires built { IsBuilt command.now }
+    requires in_range { IsInRange command.now }
     ensures replied { Replies (IsReply (L.held library.old) (λ other. Rose (L.faults library.old other) (L.faults library.new other)) command.now) result }
     ensures stays { L.held library.new ≡ L.held library.old }
     ensures never_falls { (other : List ℕ) → L.faults library.old other ≤ L.faults library.new other }
@@ -42,6 +45,12 @@ fn reply<L: Library>(
             model,
             search,
         } => check(alloc, litmus, model, search, library, brancher),
+        Command::Repair {
+            litmus,
+            model,
+            with,
+            search,
+        } => repair(alloc, litmus, model, *with, search, library, brancher),
         Command::Verify { litmus, model, log } => verify(alloc, litmus, model, log, library),
         Command::Replay {
             litmus,
@@ -51,6 +60,7 @@ fn reply<L: Library>(
         Command::Events { litmus, model } => list(alloc, litmus, model, library),
         Command::Show { litmus } => show(alloc, litmus, library),
         Command::Models => replied(alloc, &Outcome::Models),
+        Command::Work { seed, calls, .. } => work(alloc, *seed, *calls, brancher),
         // The others aren't built.
         _ => replied(alloc, &Outcome::Usage),
     }
@@ -64,6 +74,7 @@ fn answer_command<L: Library>(
     brancher: &mut Option<Box<dyn Brancher>>,
 ) -> Result<Said, AllocError>
     requires built { IsBuilt command.now }
+    requires in_range { IsInRange command.now }
     ensures replied { IfOk result (SaysOne (IsReply (L.held library.old) (λ other. Rose (L.faults library.old other) (L.faults library.new other)) command.now)) }
     ensures stays { L.held library.new ≡ L.held library.old }
     ensures never_falls { (other : List ℕ) → L.faults library.old other ≤ L.faults library.new other }
@@ -82,6 +93,7 @@ fn answer_found<L: Library>(
     library: &mut L,
     branchers: Vec<Choice<'_>>,
 ) -> Result<Said, AllocError>
+    requires in_range { IfSome found.now IsInRange }
     ensures answered { IfOk result (SaysOne (IsFoundReply (L.held library.old) (λ name. Rose (L.faults library.old name) (L.faults library.new name)) found.now)) }
     ensures untouched { ((command : Command) → found.now ≡ Some command → IsBuilt command → ⊥) → library.new ≡ library.old }
     ensures stays { L.held library.new ≡ L.held library.old }

@@ -1,4 +1,3 @@
 pub mod PathTexts
 pub mod Lines
-pub mod Rows
 mod InsertedSyncs

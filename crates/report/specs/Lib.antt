@@ -1,4 +1,3 @@
 pub mod EventTable
 pub mod Answers
 pub mod Outcomes
-pub mod Rows

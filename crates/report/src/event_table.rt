@@ -4,7 +4,7 @@ ghost use Rattle.litmus_syntax.specs.Texts.{path_text};
 ghost use Rattle.fer_events.specs.Paths.{slot_path};
 ghost use Rattle.fer_events.specs.Truth.{item_at};
 ghost use Rattle.report.specs.EventTable.{kind_word, field, number_field, field_if, path_of, effect_fields, fields, event_line, event_lines, keep_line};
-ghost use Rattle.report.specs.Rows.{is_listed, row_upto};
+ghost use Rattle.fer_events.specs.Rows.{is_listed, row_upto};
 
 use crate::tokens::{push_field, push_len_field, push_number_behind, push_number_field};
 use fer_events::{Effect, Event, Events, Kind, Pairs, SlotName};

@@ -11,6 +11,26 @@ pub enum Role {
     CrashFile,
 }
 
+/// A sync that a repair needs: the number of its event, counted from 1, among those of the repaired test, and a crash of
+/// the test without it that answers the question, in the numbers of the repaired test.
+#[derive(Debug, Drop)]
+pub struct NeedLine {
+    pub event: u32,
+    pub crash: Crash,
+}
+
+/// How much there is of a generated test: the seed and the number of calls that it is generated from, its events, the
+/// sites for its syncs, the pairs of its events that have to reach the disk in order, and the sites that a repair keeps.
+#[derive(Clone, Copy, Debug)]
+pub struct Summary {
+    pub seed: u32,
+    pub calls: u32,
+    pub events: u32,
+    pub sites: u32,
+    pub pairs: u32,
+    pub kept: u32,
+}
+
 /// What is answered.
 #[derive(Clone, Copy, Debug)]
 pub enum Outcome<'a> {
@@ -49,6 +69,20 @@ pub enum Outcome<'a> {
     /// A litmus test in its canonical text.
     Shown {
         litmus: &'a Litmus,
+    },
+    /// The syncs that a repair needs, in the order of their events, and the repaired test.
+    Repaired {
+        needs: &'a [NeedLine],
+        litmus: &'a Litmus,
+    },
+    /// The test with all sites, and a crash of it that answers the question.
+    NoneSuffice {
+        crash: &'a Crash,
+        litmus: &'a Litmus,
+    },
+    /// How much there is of a generated test.
+    Work {
+        summary: Summary,
     },
     /// The models that come with Ferrite.
     Models,

@@ -6,6 +6,7 @@ ghost use Rattle.report.specs.Outcomes.{answer_of};
 
 use crate::event_table::{push_events, push_pairs};
 use crate::outcome::{Outcome, Role};
+use crate::repairs::{none_suffice, repaired, work};
 use fer_events::{Crash, Events, Pairs};
 use litmus_syntax::push_number;
 use model_library::ShippedModel;
@@ -170,6 +171,9 @@ pub fn text(alloc: Global, outcome: &Outcome<'_>) -> Result<Vec<u8>, AllocError>
         Outcome::CrashUnread => Vec::from_slice(alloc, b"crash refused: kind 5\n"),
         Outcome::EventTable { events, pairs } => event_table(alloc, events, pairs),
         Outcome::Shown { litmus } => litmus_syntax::print(alloc, litmus),
+        Outcome::Repaired { needs, litmus } => repaired(alloc, needs, litmus),
+        Outcome::NoneSuffice { crash, litmus } => none_suffice(alloc, crash, litmus),
+        Outcome::Work { summary } => work(alloc, summary),
         Outcome::Models => models(alloc),
         Outcome::Usage => usage(alloc),
         Outcome::LitmusRefused { line, kind } => refused(alloc, Role::LitmusFile, *line, *kind),

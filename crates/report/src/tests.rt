@@ -70,6 +70,32 @@ fn texts_of_answers(rt: HostRuntime) -> Result<(), Fail> {
         ),
         (Outcome::CrashUnread, "crash refused: kind 5\n"),
         (
+            Outcome::Work {
+                summary: Summary {
+                    seed: 7,
+                    calls: 1,
+                    events: 1,
+                    sites: 1,
+                    pairs: 0,
+                    kept: 0,
+                },
+            },
+            "work 7 1\nevents 1\nsites 1\npairs 0\nkept 0\n",
+        ),
+        (
+            Outcome::Work {
+                summary: Summary {
+                    seed: 4_294_967_295,
+                    calls: 64,
+                    events: 63,
+                    sites: 62,
+                    pairs: 1891,
+                    kept: 8,
+                },
+            },
+            "work 4294967295 64\nevents 63\nsites 62\npairs 1891\nkept 8\n",
+        ),
+        (
             Outcome::ReadFault {
                 role: Role::LitmusFile,
             },
@@ -170,6 +196,106 @@ fn texts_with_syncs(rt: HostRuntime) -> Result<(), Fail> {
         let got = shown(rt.alloc(), count)?;
         let want = wanted(rt.alloc(), count)?;
         assert!(rt; got.as_slice() == want.as_slice());
+    }
+    Ok(())
+}
+
+/// A test of the calls `create /f`, `fsyncdir /` and `mark done`, which asks nothing.
+fn repaired_test(alloc: Global) -> Result<Litmus, AllocError> {
+    let name = Seq::from_slice(alloc, b"first")?;
+    let path = path_of(alloc, b"f")?;
+    let word = Seq::from_slice(alloc, b"done")?;
+    let root = Seq::new(alloc);
+    let mut body = Seq::new(alloc);
+    body.push(Step {
+        line: 3,
+        call: Call::Create { path },
+    })?;
+    body.push(Step {
+        line: 4,
+        call: Call::FsyncDir { path: root },
+    })?;
+    body.push(Step {
+        line: 5,
+        call: Call::Mark { word },
+    })?;
+    Ok(Litmus::new(
+        name,
+        4096,
+        Seq::new(alloc),
+        body,
+        true,
+        Pred::True,
+        6,
+        1,
+        4096,
+    ))
+}
+
+const REPAIRED: &[u8] = b"repaired 1
+needed 2 order 3 | 1
+litmus first
+block 4096
+setup:
+body:
+  create /f
+  fsyncdir /
+  mark done
+exists: true
+";
+
+const NOTHING_NEEDED: &[u8] = b"repaired 0
+litmus first
+block 4096
+setup:
+body:
+  create /f
+  fsyncdir /
+  mark done
+exists: true
+";
+
+const NONE_SUFFICE: &[u8] = b"no syncs suffice
+order |
+litmus first
+block 4096
+setup:
+body:
+  create /f
+  fsyncdir /
+  mark done
+exists: true
+";
+
+#[test]
+fn texts_of_repairs(rt: HostRuntime) -> Result<(), Fail> {
+    let alloc = rt.alloc();
+    let litmus = &repaired_test(alloc)?;
+    let needs = [NeedLine {
+        event: 2,
+        crash: Crash {
+            order: Seq::from_vec(vec![in alloc; 3, 1]?),
+            cut: 1,
+        },
+    }];
+    let crash = &Crash {
+        order: Seq::new(alloc),
+        cut: 0,
+    };
+    let rows = [
+        (
+            Outcome::Repaired {
+                needs: &needs,
+                litmus,
+            },
+            REPAIRED,
+        ),
+        (Outcome::Repaired { needs: &[], litmus }, NOTHING_NEEDED),
+        (Outcome::NoneSuffice { crash, litmus }, NONE_SUFFICE),
+    ];
+    for (outcome, want) in rows {
+        let got = text(alloc, &outcome)?;
+        assert!(rt; got.as_slice() == want);
     }
     Ok(())
 }

@@ -5,6 +5,7 @@ mod command_lines;
 mod crashes;
 mod listings;
 mod logs;
+mod repairs;
 mod replays;
 mod second_versions;
 mod steps;
@@ -19,6 +20,13 @@ const FIRST: &str =
 
 const REPLACE: &str =
     "litmus replace\nsetup:\ncreate /f\nwrite /f 0 \"old\"\nbody:\ncreate /g\nwrite /g 0 \"new\"\nrename /g /f\nexists: content(/f) = \"\"\n";
+
+/// A transaction, and no crash that makes the predicate true.
+const CLOSED: &str = "litmus t 2\nbody:\nbegin\ncreate /f\ncommit\nmark m\nexists: false\n";
+
+/// A file replaced with none of the syncs.
+const UNSAFE: &str =
+    "litmus safe-replace\nsetup:\nmkdir /etc\ncreate /etc/conf\nwrite /etc/conf 0 \"v1\"\nbody:\ncreate /etc/conf.new\nwrite /etc/conf.new 0 \"v2\"\nrename /etc/conf.new /etc/conf\nmark saved\nalways: (content(/etc/conf) = \"v1\" or content(/etc/conf) = \"v2\") and (not seen(saved) or content(/etc/conf) = \"v2\")\n";
 
 const SOUND_MODEL: &str = "model m\nkeep po\nend\n";
 

@@ -57,9 +57,32 @@ const LINES: &[(&[&str], &str)] = &[
     ),
     (&["verify", "a.lit", "@loose"], USAGE),
     (&["verify", "a.lit", "@loose", "l"], "not found: litmus\n6"),
-    // These aren't built.
-    (&["repair", "a.lit", "@sequential"], USAGE),
-    (&["work", "7", "24"], USAGE),
+    (&["repair", "a.lit", "@sequential"], "not found: litmus\n6"),
+    (
+        &[
+            "repair", "a.lit", "@loose", "--with", "all", "--branch", "first",
+        ],
+        "not found: litmus\n6",
+    ),
+    (&["repair", "a.lit"], USAGE),
+    (&["repair", "a.lit", "@ext3"], USAGE),
+    (&["repair", "a.lit", "@ext4like", "--with", "none"], USAGE),
+    (&["repair", "a.lit", "@ext4like", "--conflicts", "5"], USAGE),
+    (&["check", "a.lit", "@ext4like", "--with", "sync"], USAGE),
+    // One call gives one event, and a question that no crash satisfies.
+    (
+        &["work", "7", "1"],
+        "work 7 1\nevents 1\nsites 1\npairs 0\nkept 0\n0",
+    ),
+    (
+        &["work", "4294967295", "1", "--branch", "last"],
+        "work 4294967295 1\nevents 1\nsites 1\npairs 0\nkept 0\n0",
+    ),
+    (&["work", "7", "33"], USAGE),
+    (&["work", "7", "0"], USAGE),
+    (&["work", "4294967296", "1"], USAGE),
+    (&["work", "7"], USAGE),
+    (&["work", "7", "1", "--log", "l"], USAGE),
     (
         &["models"],
         "model sequential\nkeep po\nend\nmodel ext4like\nlet names = [link unlink]\nlet meta = [extend trunc attr]\nkeep po & block\nkeep meta ; (po & file) ; meta\nkeep [write] ; (po & file) ; [extend trunc]\nkeep names ; (po & dir) ; names\nkeep [write extend trunc attr] ; (po & file) ; [fsync]\nkeep names ; (po & dir) ; [fsyncdir]\nkeep po ; [sync]\nkeep [fsync fsyncdir sync mark] ; po\nend\nmodel loose\nkeep po ; [sync]\nkeep [sync] ; po\nend\n0",

@@ -1,4 +1,4 @@
-use super::{BAD_CALL, FIRST, said_over, written};
+use super::{BAD_CALL, CLOSED, FIRST, REPLACE, UNSAFE, said_over, written};
 use fer_outside::{FetchError, Library, MemLibrary};
 use std::alloc::{AllocError, Global};
 use std::test::Fail;
@@ -79,13 +79,64 @@ const LOGS: &[(&str, &str, &str, &str)] = &[
         "@sequential",
         NEVER,
         "ferrite log 2\nsites fsync 2\nformula 4 5\nquestion\n0\nend\n",
-        "log refused: line 2 kind 5\n1",
+        "log refused: line 3 kind 5\n1",
     ),
     (
         "@sequential",
         NEVER,
         "ferrite log 1\nsites fsync 5\nformula 1 1\n0\nend\n",
         "log refused: line 2 kind 5\n1",
+    ),
+    // The first version codes the events with the sites of the log alone, the second one those with all sites.
+    (
+        "@ext4like",
+        FIRST,
+        "ferrite log 1\nsites fsync 2\nformula 13 25\n0\nend\n",
+        "log accepted: 1 sites\n0",
+    ),
+    // There are four sites, two behind each call.
+    (
+        "@ext4like",
+        FIRST,
+        "ferrite log 1\nsites fsync 5\nformula 13 25\n0\nend\n",
+        "log refused: line 2 kind 5\n1",
+    ),
+    (
+        "@ext4like",
+        FIRST,
+        "ferrite log 1\nsites fsync 4\nformula 1 1\n0\nend\n",
+        "log refused: line 3 kind 5\n1",
+    ),
+    (
+        "@ext4like",
+        FIRST,
+        "ferrite log 2\nsites fsync 2\nformula 28 87\n0\nend\n",
+        "log refused: line 4 kind 1\n1",
+    ),
+    (
+        "@ext4like",
+        FIRST,
+        "ferrite log 2\nsites fsync 2\nformula 28 86\nquestion\n0\nend\n",
+        "log refused: line 3 kind 5\n1",
+    ),
+    (
+        "@ext4like",
+        FIRST,
+        "ferrite log 2\nsites sync 1\nformula 17 37\nquestion\n0\nend\n",
+        "log accepted: 1 sites\n0",
+    ),
+    // A transaction has no site in it, so that there are two, behind `commit` and `mark`.
+    (
+        "@ext4like",
+        CLOSED,
+        "ferrite log 1\nsites sync 3\nformula 1 1\n0\nend\n",
+        "log refused: line 2 kind 5\n1",
+    ),
+    (
+        "@ext4like",
+        CLOSED,
+        "ferrite log 1\nsites sync 2\nformula 1 1\n0\nend\n",
+        "log refused: line 3 kind 5\n1",
     ),
 ];
 
@@ -145,6 +196,7 @@ const FAULTS: &[(&[&str], u64, &str)] = &[
         2,
         "allowed\norder 2 | 1\n0",
     ),
+    (&["repair", "a.lit", "@ext4like", "--log", "g"], 2, "8"),
 ];
 
 #[test]
@@ -201,6 +253,83 @@ fn kept_logs_are_accepted(rt: HostRuntime) -> Result<(), Fail> {
     assert_eq!(rt; answer.as_slice(), b"allowed\norder 2 | 1\n0".as_slice());
     let kept = library.fetch(alloc, "f", usize::MAX);
     assert!(rt; kept.is_err_and(|fault| fault == FetchError::Missing));
+    Ok(())
+}
+
+/// The model, the kind of sites, the test, how the log of its repair begins, and what `verify` writes of the log with the
+/// status.
+const REPAIRED: &[(&str, &str, &str, &str, &str)] = &[
+    (
+        "@ext4like",
+        "fsync",
+        FIRST,
+        "ferrite log 2\nsites fsync 2\nformula 28 87\n",
+        "log accepted: 1 sites\n0",
+    ),
+    (
+        "@ext4like",
+        "sync",
+        FIRST,
+        "ferrite log 2\nsites sync 1\nformula 17 37\n",
+        "log accepted: 1 sites\n0",
+    ),
+    (
+        "@loose",
+        "sync",
+        FIRST,
+        "ferrite log 2\nsites sync 1\n",
+        "log accepted: 1 sites\n0",
+    ),
+    // No syncs suffice, and no log is kept.
+    ("@loose", "fsync", FIRST, "", "not found: log\n6"),
+    (
+        "@sequential",
+        "fsync",
+        FIRST,
+        "ferrite log 2\nsites fsync\n",
+        "log accepted: 0 sites\n0",
+    ),
+    // Behind the calls 1 and 2 stand `fsync /g` and `fsyncdir /`.
+    (
+        "@ext4like",
+        "fsync",
+        REPLACE,
+        "ferrite log 2\nsites fsync 3\n",
+        "log accepted: 1 sites\n0",
+    ),
+    // Behind each call stand an `fsync` of the new file and `fsyncdir /etc`.
+    (
+        "@ext4like",
+        "fsync",
+        UNSAFE,
+        "ferrite log 2\nsites fsync 3 6\n",
+        "log accepted: 2 sites\n0",
+    ),
+];
+
+/// What is held under `f`, which is nothing where the name isn't held.
+fn kept(alloc: Global, library: &mut MemLibrary) -> Vec<u8> {
+    match library.fetch(alloc, "f", usize::MAX) {
+        Ok(log) => log,
+        Err(_) => Vec::new(alloc),
+    }
+}
+
+#[test]
+fn logs_of_repairs(rt: HostRuntime) -> Result<(), Fail> {
+    let alloc = rt.alloc();
+    for (model, kind, litmus, front, want) in REPAIRED {
+        let mut library = library_with(alloc, litmus)?;
+        let words = ["repair", "a.lit", model, "--with", kind, "--log", "f"];
+        said_over(alloc, words.as_slice(), &mut library)?;
+        let log = kept(alloc, &mut library);
+        assert!(rt;
+            log.as_slice().starts_with(front.as_bytes()),
+            "at {model} {front}"
+        );
+        let answer = verified(alloc, model, &mut library)?;
+        assert_eq!(rt; answer.as_slice(), want.as_bytes(), "at {model} {front}");
+    }
     Ok(())
 }
 

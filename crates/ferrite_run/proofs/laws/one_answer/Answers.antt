@@ -20,6 +20,8 @@ returns c = record {
         one_log_refusal = c.one_refusal.ensures.refusal;
         log_or_refused = c.one_refusal.ensures.text_or_refused;
         one_check = c.one_judgement-2.ensures;
+        one_line = c.too_many_or_few.ensures.one_line;
+        one_list = c.kept_pairs_say_what_is_reached.ensures.one_list;
       })
       c.one_command.ensures.one;
 }

@@ -1,4 +1,5 @@
-use Rattle.std.proofs.Common.{ℕ, List, sym, ◌∙◌, subst}
+use Rattle.std.proofs.Common.{ℕ, List, sym, subst}
+use Rattle.model_library.specs.ShippedModels.{shipped_text}
 use Rattle.fer_outside.specs.Causes.{Rose}
 use Rattle.command_line.specs.declared.commands.ModelName.{ModelName}
 use Rattle.command_line.specs.declared.commands.ModelName.TheVariants.{Shipped, File}
@@ -12,13 +13,11 @@ pub returns-in_err-model-in-Shipped-clause-unread : goal.returns-in_err-model-in
 returns-in_err-model-in-Shipped-clause-unread g c =
     let told = g.L.Library.held c.args.library.now in
     let rose : List ℕ → Type 0 = λ other. Rose (g.L.Library.faults c.args.library.now other) (g.L.Library.faults c.args.library.now other) in
-    let same = c.as_bytes.ensures.value ∙ c.text.ensures.written in
     passed_on c.from_residual.result c.in_err-model-in-Shipped.field-0.0 (OnModel told rose c.args.name.now (λ _ _. ⊥)) c.from_residual.ensures.1
-    (stops_more (Tells (IsNoModel c.as_bytes.result.now)) _ c.in_err-model-in-Shipped.field-0.0
+    (stops_more (Tells (IsNoModel (shipped_text c.in-Shipped.shipped))) _ c.in_err-model-in-Shipped.field-0.0
     (λ a h.
-    let P : List ℕ → Type 0 = λ bytes. Tells (IsNoModel bytes) a in
     let Q : ModelName → Type 0 = λ name. OnModel told rose name (λ _ _. ⊥) a in
-    let here : Q (Shipped c.in-Shipped.shipped) = ends (subst P same h) in
+    let here : Q (Shipped c.in-Shipped.shipped) = ends h in
     subst Q (sym c.in-Shipped.is) here)
     c.in_err-model-in-Shipped.ensures.unread)
 

@@ -6,7 +6,7 @@ use Rattle.ferrite_run.specs.Choices.{choice_words}
 use Rattle.ferrite_run.specs.Saying.{SaysOne}
 use Rattle.ferrite_run.specs.Found.{IsFound, IsFoundReply}
 use Rattle.ferrite_run.proofs.Ready.{says_more}
-use Rattle.ferrite_run.proofs.Finding.{answered_found, unasked_found}
+use Rattle.ferrite_run.proofs.Finding.{answered_found, unasked_found, found_in_range}
 use Rattle.ferrite_run.proofs.top.answer_words.Goals as goal
 
 pub returns-in-Ok-clause-answered : goal.returns-in-Ok-clause-answered
@@ -27,3 +27,9 @@ returns-in-Ok-clause-untouched g c = λ none.
     let choices = choice_words c.args.branchers.items in
     let found : IsFound words choices c.in-Ok.found = subst (λ cs. IsFound words (choice_words cs) c.in-Ok.found) c.as_slice.ensures.value c.in-Ok.ensures.read in
     c.answer_found.ensures.untouched (unasked_found words choices c.in-Ok.found found none)
+
+pub answer_found-requires : goal.answer_found-requires
+answer_found-requires g c =
+    let words = c.args.words.now in
+    let choices = choice_words c.args.branchers.items in
+    record { in_range = found_in_range words choices c.in-Ok.found (subst (λ cs. IsFound words (choice_words cs) c.in-Ok.found) c.as_slice.ensures.value c.in-Ok.ensures.read) }

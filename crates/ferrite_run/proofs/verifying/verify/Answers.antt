@@ -1,4 +1,8 @@
-use Rattle.std.proofs.Common.{ℕ, List, Option, subst}
+use Rattle.std.proofs.Common.{ℕ, List, [], Option, sym, subst}
+use Rattle.litmus_syntax.specs.Test.{Test}
+use Rattle.model_reader.specs.declared.model.Model.{Model}
+use Rattle.call_events.specs.Resolved.{HasEvents}
+use Rattle.sync_repair.specs.Sets.{AreKept}
 use Rattle.fer_outside.specs.Held.{Held}
 use Rattle.fer_outside.specs.Causes.{Rose}
 use Rattle.proof_log.specs.Logs.{Logged}
@@ -8,7 +12,6 @@ use Rattle.ferrite_run.specs.Reading.{OnLog}
 use Rattle.ferrite_run.specs.Asking.{OnQuestion}
 use Rattle.ferrite_run.specs.Verify.{IsVerified}
 use Rattle.ferrite_run.proofs.Calm.{log_more}
-use Rattle.ferrite_run.proofs.Forward.{are_forward}
 use Rattle.ferrite_run.proofs.Asked.{rose_before, unasked, on_question}
 use Rattle.ferrite_run.proofs.Ready.{stops_more, replies_more, reply_passed_on}
 use Rattle.ferrite_run.proofs.verifying.verify.Goals as goal
@@ -41,8 +44,14 @@ returns-clause-answered g c =
     (subst (P a) c.question_of.ensures.stays h)))
     c.verify_file.ensures.verified
 
-pub verify_file-requires-clause-forward : goal.verify_file-requires-clause-forward
-verify_file-requires-clause-forward g c =
+pub verify_file-requires-clause-resolved : goal.verify_file-requires-clause-resolved
+verify_file-requires-clause-resolved g c =
     let q = c.in_ok-question.question in
-    let asked = c.in_ok-question.ensures.asked in
-    are_forward c.kept_pairs_are_forward.ensures asked.model q.events.events q.pairs asked.asked.kept
+    let asked = c.in_ok-question.ensures.asked.asked in
+    subst (λ (t : Test). HasEvents t [] q.events) (sym asked.litmus) asked.resolved
+
+pub verify_file-requires-clause-kept : goal.verify_file-requires-clause-kept
+verify_file-requires-clause-kept g c =
+    let q = c.in_ok-question.question in
+    let asked = c.in_ok-question.ensures.asked.asked in
+    subst (λ (m : Model). AreKept m q.events.events q.pairs) (sym asked.model_of) asked.kept

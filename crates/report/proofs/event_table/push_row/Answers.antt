@@ -1,15 +1,13 @@
-use Rattle.std.proofs.Common.{ℕ, ◌+◌, ◌∷◌, ◌++◌, [], List, filter, ◌∙◌, ap, append_assoc}
-use Rattle.std.specs.List.{flat_map}
-use Rattle.report.specs.EventTable.{keep_line}
-use Rattle.report.specs.Rows.{is_listed, row_upto}
-use Rattle.report.proofs.Rows.{row_more}
+use Rattle.std.proofs.Common.{◌+◌, ◌∷◌, [], filter, ◌∙◌}
+use Rattle.fer_events.specs.Rows.{is_listed, row_upto}
+use Rattle.fer_events.proofs.RowLaws.{row_more}
+use Rattle.report.proofs.Lines.{pairs_more}
 use Rattle.report.proofs.event_table.push_row.Goals as goal
 
 pub loop-place-preserved : goal.loop-place-preserved
 loop-place-preserved c =
-    let out = c.args.out.now.items in
     let p = c.args.pairs.now in
+    let a = c.args.first in
     let k = c.loop-place.place in
-    let more : List ℕ = flat_map keep_line (filter (is_listed p) ((c.args.first, k + 1) ∷ [])) in
-    c.in_ok-push_if_listed.ensures ∙ ap (λ (l : List ℕ). l ++ more) c.loop-place.invariant
-    ∙ append_assoc out (flat_map keep_line (row_upto p c.args.first k)) more ∙ ap (λ (l : List ℕ). out ++ l) (row_more p c.args.first k)
+    c.in_ok-push_if_listed.ensures
+    ∙ pairs_more c.args.out.now.items c.loop-place.out.items (row_upto p a k) (filter (is_listed p) ((a, k + 1) ∷ [])) (row_upto p a (k + 1)) c.loop-place.invariant (row_more p a k)

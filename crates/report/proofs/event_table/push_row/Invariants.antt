@@ -1,7 +1,7 @@
 use Rattle.std.proofs.Common.{◌≡◌, ◌++◌}
 use Rattle.std.specs.List.{flat_map}
 use Rattle.report.specs.EventTable.{keep_line}
-use Rattle.report.specs.Rows.{row_upto}
+use Rattle.fer_events.specs.Rows.{row_upto}
 use Rattle.report.proofs.event_table.push_row.Given as goal
 
 abbrev pub invariant-loop-place : goal.invariant-loop-place
