@@ -9,9 +9,9 @@ ghost use Rattle.conflict_cut.specs.Cut.{IsConflict};
 ghost use Rattle.cdcl_core.specs.Search.{IsSound, with_clause, IsReadyAt};
 
 use crate::parts::Engine;
-use crate::standing::{has_true, other_open, some_open};
 use clause_store::Lit;
 use std::alloc::AllocError;
+use watch_lists::{Standing, standing_of};
 
 // Takes in the clause `id`, where all before it are taken in, and answers whether it is not false at level 0.
 fn admit(engine: &mut Engine, id: usize) -> Result<bool, AllocError>
@@ -23,15 +23,11 @@ fn admit(engine: &mut Engine, id: usize) -> Result<bool, AllocError>
     ensures err { OnErr result (IsReadyAt engine.new id) }
 {
     let clause = engine.store.clause(id);
-    if has_true(&engine.trail, clause) {
-        return Ok(true);
-    }
-    match some_open(&engine.trail, clause) {
-        None => return Ok(false),
-        Some(lit) => match other_open(&engine.trail, clause, lit) {
-            None => engine.trail.imply(lit, id),
-            Some(_) => engine.watches.attach(&engine.store, &engine.trail, id)?,
-        },
+    match standing_of(&engine.trail, clause) {
+        Standing::True => {}
+        Standing::False => return Ok(false),
+        Standing::Unit(lit) => engine.trail.imply(lit, id),
+        Standing::Open(first, second) => engine.watches.watch(id, first, second)?,
     }
     Ok(true)
 }

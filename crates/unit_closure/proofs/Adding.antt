@@ -9,8 +9,8 @@ use Rattle.clause_store.specs.Propagation.{Follows}
 use Rattle.clause_store.proofs.GeneralLists.{Contains-head, Contains-tail}
 use Rattle.clause_store.proofs.GeneralLiterals.{lit_cases}
 use Rattle.trail_core.specs.Course.{Entry, Course, IsCourse, Holds, HasNoValue, extended}
-use Rattle.trail_core.specs.Standing.{AllFail, OthersFail}
-use Rattle.trail_core.proofs.GeneralTrails.{level-at-most, free-not-fails, one-of-three, IsCourse-push}
+use Rattle.trail_core.specs.Standing.{OthersFail}
+use Rattle.trail_core.proofs.GeneralTrails.{level-at-most, free-not-fails, IsCourse-push}
 use Rattle.trail_core.proofs.GeneralPlaces.{get-more, get-more-cases, get-new}
 use Rattle.watch_lists.specs.Watching.{Watch, Watching, numbers, IsNotFalse, IsWellChosen}
 use Rattle.watch_lists.proofs.Closing.{take-all}
@@ -48,21 +48,7 @@ pub cut-back : (f g h : Formula) (clause : List Lit) (n : ℕ) → g ≡ with_cl
 cut-back f g h clause n is e cut =
     cut ∙ ap (λ (x : Formula). record x { clauses = take n x.clauses }) is ∙ ap (λ cs. record { vars = f.vars; clauses = cs }) (take-grown f.clauses clause n e)
 
--- a clause that is true, has two literals without a value, or is unit
-pub fails-all : (es : List Entry) (c : List Lit) → ((l : Lit) → Contains c l → Holds es l → ⊥) → ((l : Lit) → Contains c l → HasNoValue es l.var → ⊥) → AllFail es c
-fails-all es c nt nf m h = elim (one-of-three es m) [
-  | inl t ↦ absurd (nt m h t)
-  | inr (inl f) ↦ f
-  | inr (inr free) ↦ absurd (nf m h free)
-]
-
-pub fails-others : (es : List Entry) (c : List Lit) (l : Lit) → ((m : Lit) → Contains c m → Holds es m → ⊥) → ((m : Lit) → Contains c m → m ≢ l → HasNoValue es m.var → ⊥) → OthersFail es c l
-fails-others es c l nt nf m h ne = elim (one-of-three es m) [
-  | inl t ↦ absurd (nt m h t)
-  | inr (inl f) ↦ f
-  | inr (inr free) ↦ absurd (nf m h ne free)
-]
-
+-- a clause that is true
 pub true-zero : (t : Course) (c : List Lit) (l : Lit) → IsCourse t → t.level ≡ 0 → Contains c l → Holds t.entries l → IsTrueAtZero t.entries c
 true-zero t c l k z has (e, ce, q) = (l, e, has, ce, q, omega (arith, z, level-at-most 0 t.entries t.level e k.rises ce))
 

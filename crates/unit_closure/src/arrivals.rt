@@ -7,11 +7,10 @@ ghost use Rattle.clause_store.specs.Propagation.{Follows};
 ghost use Rattle.conflict_cut.specs.Cut.{IsConflict};
 ghost use Rattle.unit_closure.specs.Search.{IsSound, IsReadyAt, with_clause};
 
-use crate::standing::{has_true, other_open, some_open};
 use clause_store::{Lit, Store};
 use std::alloc::AllocError;
 use trail_core::Trail;
-use watch_lists::Watches;
+use watch_lists::{Standing, Watches, standing_of};
 
 /// Takes in the clause `id`, where all before it are taken in, and answers whether it is not false at level 0. A clause
 /// that is true there is left as it is, of one with but one literal without a value that literal is implied, and any
@@ -29,15 +28,11 @@ pub fn admit(
     ensures err_trail { OnErr result (trail.new ≡ trail.old) }
 {
     let clause = store.clause(id);
-    if has_true(trail, clause) {
-        return Ok(true);
-    }
-    match some_open(trail, clause) {
-        None => return Ok(false),
-        Some(lit) => match other_open(trail, clause, lit) {
-            None => trail.imply(lit, id),
-            Some(_) => watches.attach(store, trail, id)?,
-        },
+    match standing_of(trail, clause) {
+        Standing::True => {}
+        Standing::False => return Ok(false),
+        Standing::Unit(lit) => trail.imply(lit, id),
+        Standing::Open(first, second) => watches.watch(id, first, second)?,
     }
     Ok(true)
 }

@@ -3,7 +3,7 @@ ghost use Rattle.std.specs.Prelude.{◌≡◌};
 use super::*;
 use arrivals::{admit_all, include};
 use clause_store::{Lit, Store};
-use standing::{has_true, holds, is_open, other_open, some_open};
+use standing::{holds, is_open};
 use std::test::Fail;
 use steps::spread;
 use trail_core::Trail;
@@ -16,7 +16,7 @@ fn lit(var: u32, positive: bool) -> Lit
 }
 
 #[test]
-fn reads_how_clauses_stand(rt: HostRuntime) -> Result<(), Fail> {
+fn reads_how_literals_stand(rt: HostRuntime) -> Result<(), Fail> {
     let mut trail = Trail::new(rt.alloc(), 4)?;
     trail.imply(lit(1, true), 0);
     trail.imply(lit(2, false), 1);
@@ -24,13 +24,6 @@ fn reads_how_clauses_stand(rt: HostRuntime) -> Result<(), Fail> {
     assert!(rt; !holds(&trail, lit(1, false)));
     assert!(rt; is_open(&trail, lit(3, false)));
     assert!(rt; !is_open(&trail, lit(1, false)));
-    let clause = [lit(1, false), lit(3, true), lit(4, false)];
-    assert!(rt; !has_true(&trail, clause.as_slice()));
-    assert!(rt; some_open(&trail, clause.as_slice()) == Some(lit(3, true)));
-    assert!(rt; other_open(&trail, clause.as_slice(), lit(3, true)) == Some(lit(4, false)));
-    assert!(rt; has_true(&trail, &[lit(3, true), lit(2, false)]));
-    assert!(rt; some_open(&trail, &[lit(1, false), lit(2, true)]).is_none());
-    assert!(rt; other_open(&trail, &[lit(1, false), lit(3, true)], lit(3, true)).is_none());
     Ok(())
 }
 

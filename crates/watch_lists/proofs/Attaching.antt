@@ -1,7 +1,6 @@
 -- A clause that is attached.
 use Rattle.std.proofs.Common.{◌≡◌, ℕ, ◌+◌, ◌*◌, ◌<◌, ◌++◌, ◌⊎◌, inl, inr, Bool, true, false, List, [], ◌∷◌, length, get_or, set, Result, Ok, Err, OnOk, ap, sym, ◌∙◌, subst, arith, length-set, get_or-set_other, get_or-set_same, length-append}
-use Rattle.std.specs.List.{All, Contains}
-use Rattle.std.proofs.lemmas.List.Elements.{All-contains}
+use Rattle.std.specs.List.{Contains}
 use Rattle.clause_store.specs.declared.Lit.{Lit}
 use Rattle.clause_store.specs.Clauses.{InVars}
 use Rattle.watch_lists.proofs.Basics.{code-lt}
@@ -118,8 +117,6 @@ view-more vars ids ids' ch ch' v id a b h ie le is =
     let as-view : List Watch → Watching = (λ ws. record { vars = vars; list = ws }) in
     ap as-view list-is ∙ ap (λ (x : Watching). record x { list = x.list ++ w ∷ [] }) is
 
--- the chain of a literal of a clause is there
-pub chain-there : (vars n : ℕ) (ids : List ℕ) (ch : Chained) (clause : List Lit) (l : Lit) (k : ℕ) → AreHung vars ids ch → vars ≡ n → All (InVars n) clause → Contains clause l → k ≡ code l → k < length ch.lists
-chain-there vars n ids ch clause l k h same named has ke =
-    let there : InVars n l = All-contains (InVars n) clause l named has in
-    omega (arith, h.room, same, ke, code-lt l n there.1)
+-- the chain of a literal is there
+pub chain-there : (vars : ℕ) (ids : List ℕ) (ch : Chained) (l : Lit) (k : ℕ) → AreHung vars ids ch → InVars vars l → k ≡ code l → k < length ch.lists
+chain-there vars ids ch l k h there ke = omega (arith, h.room, ke, code-lt l vars there.1)

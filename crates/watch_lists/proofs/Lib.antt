@@ -9,3 +9,4 @@ pub mod Closing
 pub mod Choosing
 pub mod Attaching
 pub mod GeneralWatches
+pub mod Standings

@@ -19,9 +19,11 @@ ghost use Rattle.watch_lists.specs.Going.{code, place, watches_of, IsUnderway, I
 
 pub mod laws;
 mod links;
+mod standing;
 
 use clause_store::{Lit, Store};
 use links::Chains;
+pub use standing::{Standing, standing_of};
 use std::alloc::{AllocError, Global};
 use std::marker::Model;
 use trail_core::Trail;
@@ -382,6 +384,28 @@ impl Watches {
         Ok(())
     }
 
+    /// Attaches the clause of this number, of which these two literals are watched, without a look at the clause. Where memory
+    /// is refused, nothing is attached.
+    pub fn watch(&mut self, id: usize, first: Lit, second: Lit) -> Result<(), AllocError>
+        requires first_in { InVars self.old.vars first }
+        requires second_in { InVars self.old.vars second }
+        ensures attached { OnOk result (self.new ≡ record self.old { list = self.old.list ++ record { clause = id; first = first; second = second } ∷ [] }) }
+        ensures err { OnErr result (self.new ≡ self.old) }
+    {
+        let n = self.ids.len();
+        self.ids.push(id)?;
+        let chain = code_of(first);
+        if self
+            .chains
+            .add_pair(chain, first, code_of(second), second)
+            .is_err()
+        {
+            self.ids.truncate(n);
+            return Err(AllocError);
+        }
+        Ok(())
+    }
+
     /// Attaches the clause `id` of the store, which has to have two different literals and one that isn't false. Two
     /// literals are watched that aren't false where it has them, and else that one and a false one of the highest level.
     /// Where memory is refused, nothing is attached.
@@ -395,17 +419,7 @@ impl Watches {
         let clause = store.clause(id);
         let first = first_watch(trail, clause);
         let second = second_watch(trail, clause, first);
-        let n = self.ids.len();
-        self.ids.push(id)?;
-        let chain = code_of(first);
-        if self
-            .chains
-            .add_pair(chain, first, code_of(second), second)
-            .is_err()
-        {
-            self.ids.truncate(n);
-            return Err(AllocError);
-        }
+        self.watch(id, first, second)?;
         Ok(())
     }
 

@@ -93,3 +93,18 @@ fn finds_the_false_clause(rt: HostRuntime) -> Result<(), Fail> {
     assert_eq!(rt; trail.lits().len(), 3);
     Ok(())
 }
+
+#[test]
+fn clauses_stand_as_their_literals_do(rt: HostRuntime) -> Result<(), Fail> {
+    let mut trail = Trail::new(rt.alloc(), 4)?;
+    trail.imply(lit(1, true), 0);
+    trail.imply(lit(2, false), 1);
+    let (open, other) = (lit(3, true), lit(4, false));
+    assert!(rt; standing_of(&trail, &[]) == Standing::False);
+    assert!(rt; standing_of(&trail, &[lit(1, false), lit(2, true)]) == Standing::False);
+    assert!(rt; standing_of(&trail, &[open, lit(1, false), open]) == Standing::Unit(open));
+    assert!(rt; standing_of(&trail, &[lit(1, false), open, other]) == Standing::Open(open, other));
+    assert!(rt; standing_of(&trail, &[open, other, lit(2, false)]) == Standing::True);
+    assert!(rt; standing_of(&trail, &[lit(1, true), open, lit(2, true)]) == Standing::True);
+    Ok(())
+}
