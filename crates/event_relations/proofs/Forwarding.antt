@@ -1,7 +1,9 @@
 -- Pairs that get those of rows, forward ones alone.
-use Rattle.std.proofs.Common.{◌≡◌, ◌↔◌, ◌⊎◌, ℕ, zero, suc, ◌+◌, ◌-◌, ◌<◌, ◌≤◌, ◌&&◌, ◌||◌, inl, inr, true, eqb, List, get_or, refl, sym, ◌∙◌, ap, subst, arith}
+use Rattle.std.proofs.Common.{pow-add, ◌≡◌, ◌↔◌, ◌⊎◌, ℕ, zero, suc, ◌+◌, ◌-◌, ◌*◌, ◌/◌, ◌^◌, ◌<◌, ◌≤◌, ◌&&◌, ◌||◌, inl, inr, true, eqb, List, get_or, refl, sym, ◌∙◌, ap, subst, arith}
 use Rattle.std.specs.Int.{bit_at}
-use Rattle.std.proofs.lemmas.Bool.{cases_eq, and_parts, and_from, eq-eqb, eqb-true}
+use Rattle.std.proofs.lemmas.Nat.Bits.{bit_at_above}
+use Rattle.std.proofs.lemmas.Nat.{le-div, pow_pos}
+use Rattle.std.proofs.lemmas.Bool.{cases_eq, cases_lt, and_parts, and_from, eq-eqb, eqb-true}
 use Rattle.fer_events.specs.Pairs.{PairList, has_pair}
 use Rattle.event_relations.specs.Showing.{shown, IsLater}
 use Rattle.event_relations.proofs.Joining.{or_cases, or_left, or_right}
@@ -126,6 +128,21 @@ rows_put old now new rows k is n pairs = record {
     ]),
   );
 }
+
+-- a row whose bits from its own event on are at most the first has no later event
+none_later : (n k row y : ℕ) → row / 2 ^ k ≤ 1 → IsLater n (k + 1) row y → ⊥
+none_later n k row y few later =
+    let power : 2 ^ (k + 1) ≡ 2 ^ k * 2 = pow-add 2 k 1 in
+    let below : row < 2 ^ (k + 1) = elim (cases_lt row (2 ^ (k + 1))) [
+      | inl less ↦ less
+      | inr more ↦ absurd (omega (arith, few, le-div 2 row (2 ^ k) (pow_pos k) (omega (arith, more, power))))
+    ] in
+    let none : bit_at row (y - 1) ≡ 0 = bit_at_above row (k + 1) (y - 1) below (omega (arith, later.0)) in
+    absurd (omega (arith, none, later.2))
+
+pub rows_passed : (old now : PairList) (rows : List ℕ) (k : ℕ) → HasRowsTo old now rows k → get_or rows k 0 / 2 ^ k ≤ 1 → HasRowsTo old now rows (k + 1)
+rows_passed old now rows k is few =
+    rows_put old now now rows k is refl (λ x y. (λ h. inl h, λ h. elim h [ inl o ↦ o | inr r ↦ absurd (none_later now.n k (get_or rows k 0) y few r.1) ]))
 
 pub rows_ended :
     (old now : PairList) (rows : List ℕ) (k : ℕ) → HasRowsTo old now rows k → old.n ≤ k

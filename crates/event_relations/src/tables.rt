@@ -4,7 +4,7 @@ ghost use Rattle.fer_events.specs.declared.event.Event.{Event};
 ghost use Rattle.event_relations.specs.Words.{Relates};
 ghost use Rattle.event_relations.specs.Lexicons.{ShowsWord, as_expr};
 
-use crate::words::{Word, relates};
+use crate::words::{Word, is_alone, relates};
 use fer_events::Event;
 use fer_list::Seq;
 use std::alloc::{AllocError, Global};
@@ -14,6 +14,9 @@ fn word_row(a: usize, e: &Event, events: &[Event], word: Word) -> u128
     requires few { length events.now ≤ 128 }
     ensures { (b : ℕ) → (bit_at result b ≡ 1) ↔ ((f : Event) × (slice_get events.now b ≡ Some f) × Relates (suc a) (suc b) e.now f (as_expr word)) }
 {
+    if is_alone(e, word) {
+        return 0;
+    }
     let mut row = 0;
     for b in 0..events.len() {
         if relates(a, b, e, &events[b], word) {

@@ -1,4 +1,5 @@
 ghost use Rattle.std.specs.Prelude.{◌≡◌, ℕ, suc, ◌<◌, ◌≤◌, true, ◌↔◌};
+ghost use Rattle.fer_events.specs.declared.event.Event.{Event};
 ghost use Rattle.event_relations.specs.Words.{BothCarry, Relates};
 ghost use Rattle.event_relations.specs.Lexicons.{as_expr};
 
@@ -47,5 +48,17 @@ pub fn relates(a: usize, b: usize, e: &Event, f: &Event, word: Word) -> bool
         Word::SameName => both_carry(e.slot, f.slot),
         Word::SameCall => e.call == f.call,
         Word::SameTxn => e.txn == f.txn,
+    }
+}
+
+/// Whether it is plain that the word relates the event to none: it asks for a number that the event doesn't carry.
+pub fn is_alone(e: &Event, word: Word) -> bool
+    ensures { result ≡ true → (a b : ℕ) (f : Event) → Relates a b e.now f (as_expr word) → ⊥ }
+{
+    match word {
+        Word::SameFile | Word::SameBlock => !both_carry(e.file, e.file),
+        Word::SameDir => !both_carry(e.dir, e.dir),
+        Word::SameName => !both_carry(e.slot, e.slot),
+        _ => false,
     }
 }

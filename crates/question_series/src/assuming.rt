@@ -1,4 +1,4 @@
-ghost use Rattle.std.specs.Prelude.{◌≡◌, ◌≤◌, [], ◌∷◌, ◌++◌, length, IfOk, OnOk, MatchBool};
+ghost use Rattle.std.specs.Prelude.{◌≡◌, ◌≤◌, [], ◌∷◌, ◌++◌, length, reverse, IfOk, OnOk, MatchBool};
 ghost use Rattle.fer_events.specs.Orders.{numbers, AreForward};
 ghost use Rattle.order_coding.specs.Variables.{IsNumber};
 ghost use Rattle.question_series.specs.Assumed.{kept_lits, row, AreAmong};
@@ -45,6 +45,15 @@ pub fn kept_lits(alloc: Global, pairs: &Pairs) -> Result<Lits, AllocError>
         assume_row(&mut lits, pairs, a)?;
     }
     Ok(lits)
+}
+
+/// The literals in the opposite order.
+pub fn turned(lits: Lits) -> Lits
+    ensures { result ≡ reverse lits }
+{
+    let mut items = lits.into_vec();
+    items.as_mut_slice().reverse();
+    Seq::from_vec(items)
 }
 
 // Appends the literals of the pairs that begin with this number.

@@ -7,7 +7,7 @@ ghost use Rattle.question_series.specs.declared.series.SeriesAnswer.TheVariants.
 ghost use Rattle.question_series.specs.Series.{IsAbout, IsNextAnswer, IsPartUnder};
 ghost use Rattle.question_series.specs.Settling.{ReachesOrder, IsTold};
 
-use crate::assuming::{count_pairs, kept_lits};
+use crate::assuming::{count_pairs, kept_lits, turned};
 use crate::settling::{Found, find};
 use branch_rules::Brancher;
 use cdcl_core::Solver;
@@ -140,7 +140,9 @@ impl Series {
         events.keeps_rules();
         true_values_are_witnesses();
         witnesses_have_values();
-        let lits = kept_lits(self.alloc, pairs)?;
+        // The part that is refuted is found among the first that are assumed. Where later questions keep fewer pairs, and first
+        // lack those of early events, it lies inside theirs the longer, the later its events are.
+        let lits = turned(kept_lits(self.alloc, pairs)?);
         let found = find(
             &mut self.solver,
             &mut self.refuting,

@@ -125,7 +125,8 @@ module _ (body : List Step) (sites : List Site) (present : List Bool) (k : ℕ) 
   abbrev later : List Bool
   later = calls_present (k + 1 + 1) (drop (k + 1) body) sites present
 
-  rest-calls : calls_present (k + 1) (drop k body) sites present ≡ true ∷ behind ++ later
+  -- the calls from one of the body on
+  pub rest-calls : calls_present (k + 1) (drop k body) sites present ≡ true ∷ behind ++ later
   rest-calls = first-call (drop k body) (drop (k + 1) body) (next-step k body there)
     where
       first-call : (rest others : List Step) → (step : Step) × (rest ≡ step ∷ others)

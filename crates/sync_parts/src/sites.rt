@@ -1,4 +1,4 @@
-ghost use Rattle.std.specs.Prelude.{◌≡◌, ◌==◌, ◌+◌, ◌≤◌, ◌<◌, length, take, slice_get, Some, slice_index_or, false, count_by, position, IfOk, IfSome};
+ghost use Rattle.std.specs.Prelude.{◌≡◌, ◌==◌, ◌+◌, ◌≤◌, ◌<◌, ◌++◌, length, take, slice_get, Some, slice_index_or, false, count_by, position, IfOk, IfSome, OnOk};
 ghost use Rattle.litmus_syntax.specs.declared.site.Site.{Site};
 ghost use Rattle.litmus_syntax.specs.Test.{Test};
 ghost use Rattle.litmus_syntax.specs.Sites.{AreSyncs};
@@ -86,6 +86,47 @@ fn call_stays(body: &[Step], sites: &[Site], present: &[bool], call: u32) -> boo
     false
 }
 
+/// Appends, of the sites behind the body call of this number, which are present.
+fn push_behind(
+    stays: &mut Vec<bool>,
+    sites: &[Site],
+    present: &[bool],
+    number: usize,
+) -> Result<(), AllocError>
+    ensures { OnOk result (stays.new.items ≡ stays.old.items ++ present_at number sites.now present.now) }
+{
+    for (k, site) in sites.iter().enumerate() {
+        if site.after as usize == number {
+            stays.push(is_present(present, k))?;
+        }
+    }
+    Ok(())
+}
+
+/// Of the calls of the body with all sites, which stay where only some sites are present.
+fn staying(
+    alloc: Global,
+    body: &[Step],
+    sites: &[Site],
+    present: &[bool],
+) -> Result<Vec<bool>, AllocError>
+    ensures { IfOk result (λ stays. stays.items ≡ calls_present 1 body.now sites.now present.now) }
+{
+    let mut stays = Vec::new(alloc);
+    for place in 0..body.len() {
+        stays.push(true)?;
+        push_behind(&mut stays, sites, present, place + 1)?;
+    }
+    Ok(stays)
+}
+
+/// Whether the call of this number is one of those that stay.
+fn is_staying(stays: &[bool], call: u32) -> bool
+    ensures { result ≡ call_stays stays.now call }
+{
+    is_present(stays, (call as usize).saturating_sub(1))
+}
+
 /// The places, among the events of a test with all sites, of its events where only some sites are present: their numbers,
 /// counted from 1, ascending. `present` has a truth value for each site; a site without one isn't present.
 pub fn places(
@@ -98,9 +139,10 @@ pub fn places(
     ensures { IfOk result (λ places. places.items ≡ places_present body.now sites.now present.now events.now.events) }
 {
     events.keeps_rules();
+    let stays = staying(alloc, body, sites, present)?;
     let mut places = Vec::new(alloc);
     for (place, event) in events.events().iter().enumerate() {
-        if call_stays(body, sites, present, event.call) {
+        if is_staying(stays.as_slice(), event.call) {
             places.push(place as u32 + 1)?;
         }
     }
