@@ -1,0 +1,11 @@
+pub mod Orders
+pub mod Effects
+pub mod Questions
+pub mod Doubling
+pub mod Bodies
+pub mod Growing
+pub mod Calls
+pub mod Walking
+pub mod Marks
+pub mod Lost
+pub mod Repairs

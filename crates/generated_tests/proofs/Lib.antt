@@ -1,0 +1,10 @@
+pub mod Names
+pub mod Places
+pub mod Shapes
+pub mod Free
+pub mod Making
+pub mod Going
+pub mod Bodies
+pub mod Questions
+pub mod Tests
+pub mod Sites
