@@ -122,12 +122,7 @@ reply_keeps told rose Models done h = nothing_kept (λ _. ⊥) done (ap (λ (d :
 reply_keeps told rose (Repair litmus model with search) done h =
     question_keeps told rose litmus model (λ q. ListSites q with (λ sites. IsRepaired q with sites search)) (λ name. search.log ≡ Some name) done
     (λ q. step_keeps (λ name. search.log ≡ Some name) done (λ sites. repair_keeps q with sites search done)) h
-reply_keeps told rose (Work seed calls branch) done h =
-    step_keeps (λ _. ⊥) done
-    (λ read. step_keeps (λ _. ⊥) done
-    (λ trace. step_keeps (λ _. ⊥) done
-    (λ pairs. step_keeps (λ _. ⊥) done
-    (λ sites. told_keeps (IsWorked seed calls (record { litmus = generated seed calls; model = read; events = trace; pairs = pairs }) sites) (λ _. ⊥) done)))) h
+reply_keeps told rose (Work seed calls branch) done h = told_keeps (IsWorked seed calls) (λ _. ⊥) done h
 reply_keeps told rose (Explain litmus model branch) done h = absurd h
 reply_keeps told rose (Hint litmus model log hinted) done h = absurd h
 reply_keeps told rose (Trim litmus model log trimmed) done h = absurd h

@@ -17,6 +17,7 @@ pub mod KeptLogs
 pub mod Repaired
 pub mod Numbers
 pub mod Judged
+pub mod Worked
 pub mod OneRepair
 pub mod OneVerdict
 pub mod SitedLogs

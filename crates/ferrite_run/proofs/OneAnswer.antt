@@ -36,7 +36,8 @@ use Rattle.ferrite_run.specs.Reading.{IsNoLitmus, IsNoModel, IsNoCrash, IsNoLog,
 use Rattle.ferrite_run.specs.Asking.{IsUnresolved, Keep, OnRead, OnTest, OnQuestion}
 use Rattle.ferrite_run.specs.Sites.{HasTooMany, AreSitesOf, ListSites}
 use Rattle.ferrite_run.specs.Repair.{IsRepaired}
-use Rattle.ferrite_run.specs.Work.{IsWorked}
+use Rattle.ferrite_run.specs.Working.{IsWorkedBy}
+use Rattle.ferrite_run.proofs.Worked.{worked_steps}
 use Rattle.ferrite_run.specs.Check.{IsChecked}
 use Rattle.ferrite_run.specs.Check.IsChecked.{allowed, forbidden, unknown}
 use Rattle.ferrite_run.specs.Events.{IsTable}
@@ -136,8 +137,9 @@ one_reply laws all (Repair litmus model with search) a b h g =
     one_on_question laws all litmus model (λ q. ListSites q with (λ sites. IsRepaired q with sites search))
     (λ q. one_on_sites laws q with (λ sites. IsRepaired q with sites search) (λ sites. one_repair q with sites search)) a b h g
 one_reply laws all (Work seed calls branch) a b h g =
-    one_on_test laws all (generated seed calls) (Shipped Ext4like) (λ q. ListSites q Sync (λ sites. Tells (IsWorked seed calls q sites)))
-    (λ q. one_on_sites laws q Sync (λ sites. Tells (IsWorked seed calls q sites)) (λ sites. one_work seed calls q sites)) a b h g
+    one_on_test laws all (generated seed calls) (Shipped Ext4like) (λ q. ListSites q Sync (λ sites. Tells (IsWorkedBy seed calls q sites)))
+    (λ q. one_on_sites laws q Sync (λ sites. Tells (IsWorkedBy seed calls q sites)) (λ sites. one_work seed calls q sites)) a b
+    (worked_steps seed calls a h) (worked_steps seed calls b g)
 one_reply laws all (Explain litmus model branch) a b h g = absurd h
 one_reply laws all (Hint litmus model log hinted) a b h g = absurd h
 one_reply laws all (Trim litmus model log trimmed) a b h g = absurd h

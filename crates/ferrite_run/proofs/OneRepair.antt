@@ -21,8 +21,9 @@ use Rattle.ferrite_run.specs.Done.{Done, Tells}
 use Rattle.ferrite_run.specs.Sites.{HasTooMany, AreSitesOf, repaired_by}
 use Rattle.ferrite_run.specs.Repair.{IsRepaired}
 use Rattle.ferrite_run.specs.Repair.IsRepaired.{none_suffice as too_little, repaired, unknown}
-use Rattle.ferrite_run.specs.Work.{IsWorked, summary_of}
-use Rattle.ferrite_run.specs.Work.IsWorked.{worked, none_suffice as nothing_suffices}
+use Rattle.ferrite_run.specs.Work.{summary_of}
+use Rattle.ferrite_run.specs.Working.{IsWorkedBy}
+use Rattle.ferrite_run.specs.Working.IsWorkedBy.{worked, none_suffice as nothing_suffices}
 use Rattle.ferrite_run.proofs.Rows.{IsOneStep, one_told, is_only}
 use Rattle.ferrite_run.proofs.Single.{Laws}
 
@@ -67,7 +68,7 @@ one_repair q kind sites search a b (too_little c shows e) (unknown limit is g as
 one_repair q kind sites search a b (repaired never needs g left are rules closed e) (unknown limit is h asked keeps leaves f) =
     left_open limit (inr (ap (λ (d : Done). d.answer) f))
 
-pub one_work : (seed calls : ℕ) (q : Question) (sites : List Site) (a b : Done) → Tells (IsWorked seed calls q sites) a → Tells (IsWorked seed calls q sites) b → Agree a b
+pub one_work : (seed calls : ℕ) (q : Question) (sites : List Site) (a b : Done) → Tells (IsWorkedBy seed calls q sites) a → Tells (IsWorkedBy seed calls q sites) b → Agree a b
 one_work seed calls q sites a b (worked never s left e, none) (worked neither t leaves f, nothing) =
     let set : s ≡ t = one-walk (IsBad q.litmus q.model sites) (length sites) (length sites) s t left leaves in
     same (one_told a b (e ∙ ap (λ (l : List Bool). Work (summary_of seed calls q sites l)) set ∙ sym f) none nothing)

@@ -1,9 +1,6 @@
 -- What a run answers, in the order of its work.
 use Rattle.std.specs.Prelude.{◌≡◌, ◌⊎◌, ℕ, List, Option, Some}
 use Rattle.fer_outside.specs.Held.{Held}
-use Rattle.litmus_syntax.specs.declared.site.SiteKind.TheVariants.{Sync}
-use Rattle.model_library.specs.declared.texts.ShippedModel.TheVariants.{Ext4like}
-use Rattle.model_library.specs.Generated.{generated}
 use Rattle.command_line.specs.declared.commands.ModelName.{ModelName}
 use Rattle.command_line.specs.declared.commands.ModelName.TheVariants.{Shipped, File}
 use Rattle.command_line.specs.declared.commands.Command.{Command}
@@ -14,7 +11,7 @@ use Rattle.report.specs.Answers.{Answer}
 use Rattle.ferrite_run.specs.Done.{Done, only, Tells}
 use Rattle.ferrite_run.specs.Steps.{Step}
 use Rattle.ferrite_run.specs.Reading.{OnLitmus, OnCrash, OnLog}
-use Rattle.ferrite_run.specs.Asking.{OnTest, OnQuestion}
+use Rattle.ferrite_run.specs.Asking.{OnQuestion}
 use Rattle.ferrite_run.specs.Sites.{ListSites}
 use Rattle.ferrite_run.specs.Built.{IsBuilt}
 use Rattle.ferrite_run.specs.Check.{IsChecked}
@@ -38,8 +35,7 @@ IsReply told rose (Replay litmus model crash) done =
 IsReply told rose (Events litmus model) done = OnQuestion told rose litmus model (λ q. Tells (IsTable q)) done
 IsReply told rose (Show litmus) done = OnLitmus told rose litmus (λ test. Tells (IsShown test)) done
 IsReply told rose Models done = done ≡ only answers.Models
-IsReply told rose (Work seed calls branch) done =
-    OnTest told rose (generated seed calls) (Shipped Ext4like) (λ q. ListSites q Sync (λ sites. Tells (IsWorked seed calls q sites))) done
+IsReply told rose (Work seed calls branch) done = Tells (IsWorked seed calls) done
 IsReply told rose command done = ⊥
 
 -- the words are this command where `--branch` may name these choices, and it is built

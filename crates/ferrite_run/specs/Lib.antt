@@ -7,6 +7,7 @@ pub mod Sites
 pub mod Check
 pub mod Repair
 pub mod Work
+pub mod Working
 pub mod Events
 pub mod Show
 pub mod Replay

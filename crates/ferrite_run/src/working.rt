@@ -1,17 +1,13 @@
 ghost use Rattle.std.specs.Prelude.{◌≡◌, ◌≤◌, [], length, IfOk};
 ghost use Rattle.litmus_syntax.specs.declared.site.SiteKind.TheVariants.{Sync};
 ghost use Rattle.call_events.specs.Resolved.{HasEvents};
-ghost use Rattle.model_library.specs.declared.texts.ShippedModel.TheVariants.{Ext4like};
-ghost use Rattle.model_library.specs.Generated.{generated};
-ghost use Rattle.model_library.specs.ShippedModels.{shipped_text};
 ghost use Rattle.report.specs.Answers.{Work};
-ghost use Rattle.ferrite_run.specs.Asking.{OnRead};
 ghost use Rattle.ferrite_run.specs.Done.{Tells, only};
-ghost use Rattle.ferrite_run.specs.Reading.{ReadModel};
 ghost use Rattle.ferrite_run.specs.Saying.{Replies};
 ghost use Rattle.ferrite_run.specs.Sites.{AreSitesOf, ListSites};
 ghost use Rattle.ferrite_run.specs.Usable.{AreUsable};
-ghost use Rattle.ferrite_run.specs.Work.{summary_of, IsWorked};
+ghost use Rattle.ferrite_run.specs.Work.{IsWorked};
+ghost use Rattle.ferrite_run.specs.Working.{IsWorkedBy, WorkSteps};
 
 use crate::asking::asked_of;
 use crate::question::Question;
@@ -20,10 +16,14 @@ use crate::repairing::tell_none;
 use crate::saying::{Said, Stop, replied};
 use crate::siting::list_sites;
 use branch_rules::Brancher;
+use call_events::one_outcome;
+use generated_repairs::syncs_repair_generated_tests;
+use generated_tests::generated_tests_are_accepted;
 use litmus_syntax::{Site, SiteKind};
 use model_library::{ShippedModel, make};
 use question_series::count_pairs;
 use report::{Outcome, Summary};
+use shipped_meaning::{shipped_models_are_read, shipped_models_keep_syncs};
 use std::alloc::Global;
 use sync_repair::{RepairAnswer, events_with};
 
@@ -63,7 +63,7 @@ fn work_by(
 ) -> Result<Said, Stop>
     requires listed { AreSitesOf question.now Sync sites.now }
     requires usable { AreUsable question.now sites.now }
-    ensures worked { Replies (Tells (IsWorked seed calls question.now sites.now)) result }
+    ensures worked { Replies (Tells (IsWorkedBy seed calls question.now sites.now)) result }
 {
     let events = events_with(alloc, &question.litmus, sites)?;
     match sync_repair::repair(
@@ -92,13 +92,31 @@ fn work_question(
     brancher: &mut Option<Box<dyn Brancher>>,
 ) -> Result<Said, Stop>
     requires resolved { HasEvents question.now.litmus [] question.now.events }
-    ensures worked { Replies (ListSites question.now Sync (λ sites. Tells (IsWorked seed calls question.now sites))) result }
+    ensures worked { Replies (ListSites question.now Sync (λ sites. Tells (IsWorkedBy seed calls question.now sites))) result }
 {
     let sites = list_sites(alloc, question, SiteKind::Sync)?;
     work_by(alloc, seed, calls, question, sites.as_slice(), brancher)
 }
 
-/// What there is of the test of a seed with so many calls, and of its repair by `sync` under the shipped `ext4like`.
+/// Makes the test of a seed with so many calls, and repairs it.
+fn work_generated(
+    alloc: Global,
+    seed: u32,
+    calls: u32,
+    brancher: &mut Option<Box<dyn Brancher>>,
+) -> Result<Said, Stop>
+    requires some { 1 ≤ calls }
+    requires few { calls ≤ 32 }
+    ensures answered { Replies (WorkSteps seed calls) result }
+{
+    let test = make(alloc, u64::from(seed), calls)?;
+    let model = shipped_model(alloc, ShippedModel::Ext4like)?;
+    let question = asked_of(alloc, test, model)?;
+    work_question(alloc, seed, calls, &question, brancher)
+}
+
+/// What there is of the test of a seed with so many calls, and of its repair by `sync` under the shipped `ext4like`. The test is
+/// never refused, and the syncs always suffice.
 pub fn work(
     alloc: Global,
     seed: u32,
@@ -107,10 +125,12 @@ pub fn work(
 ) -> Result<Said, Stop>
     requires some { 1 ≤ calls }
     requires few { calls ≤ 32 }
-    ensures answered { Replies (ReadModel (shipped_text Ext4like) (λ model. OnRead (generated seed calls) model (λ q. ListSites q Sync (λ sites. Tells (IsWorked seed calls q sites))))) result }
+    ensures answered { Replies (Tells (IsWorked seed calls)) result }
 {
-    let test = make(alloc, u64::from(seed), calls)?;
-    let model = shipped_model(alloc, ShippedModel::Ext4like)?;
-    let question = asked_of(alloc, test, model)?;
-    work_question(alloc, seed, calls, &question, brancher)
+    one_outcome();
+    shipped_models_are_read();
+    shipped_models_keep_syncs();
+    generated_tests_are_accepted();
+    syncs_repair_generated_tests();
+    work_generated(alloc, seed, calls, brancher)
 }

@@ -10,8 +10,9 @@ use Rattle.ferrite_run.specs.Saying.{Replies}
 use Rattle.ferrite_run.specs.Sites.{repaired_by}
 use Rattle.ferrite_run.specs.Repair.{site_numbers}
 use Rattle.ferrite_run.proofs.Numbers.{numbers_few}
-use Rattle.ferrite_run.specs.Work.{summary_of, IsWorked}
-use Rattle.ferrite_run.specs.Work.IsWorked.{worked, none_suffice}
+use Rattle.ferrite_run.specs.Work.{summary_of}
+use Rattle.ferrite_run.specs.Working.{IsWorkedBy}
+use Rattle.ferrite_run.specs.Working.IsWorkedBy.{worked, none_suffice}
 use Rattle.ferrite_run.proofs.Ready.{replies_more, told_only}
 use Rattle.ferrite_run.proofs.Repaired.{all_suffice, left_size}
 use Rattle.ferrite_run.proofs.working.work_by.Goals as goal
@@ -23,8 +24,8 @@ returns-in-NoneSuffice g c =
     let is = subst (IsRepair q.litmus q.model sites 18446744073709551615) c.in-NoneSuffice.is c.in_ok-crash.ensures.repaired in
     let crash = c.in-NoneSuffice.crash in
     record {
-      worked = replies_more _ (Tells (IsWorked c.args.seed c.args.calls q sites)) c.tell_none.result
-          (λ a e. told_only (IsWorked c.args.seed c.args.calls q sites) (NoneSuffice crash (repaired_by q.litmus sites)) a (none_suffice crash is refl) e) c.tell_none.ensures.told;
+      worked = replies_more _ (Tells (IsWorkedBy c.args.seed c.args.calls q sites)) c.tell_none.result
+          (λ a e. told_only (IsWorkedBy c.args.seed c.args.calls q sites) (NoneSuffice crash (repaired_by q.litmus sites)) a (none_suffice crash is refl) e) c.tell_none.ensures.told;
     }
 
 pub tell_work-requires-clause-kept : goal.tell_work-requires-clause-kept
@@ -61,6 +62,6 @@ returns-in-Repaired g c =
     let P : ℕ → Type 0 = λ kept. Replies (λ done. done ≡ only (Work (summary kept))) c.tell_work.result in
     let told : P (length (things_in set)) = subst P count c.tell_work.ensures.told in
     record {
-      worked = replies_more _ (Tells (IsWorked seed calls q sites)) c.tell_work.result
-          (λ a e. told_only (IsWorked seed calls q sites) (Work (summary_of seed calls q sites set)) a (worked never set is.0 refl) e) told;
+      worked = replies_more _ (Tells (IsWorkedBy seed calls q sites)) c.tell_work.result
+          (λ a e. told_only (IsWorkedBy seed calls q sites) (Work (summary_of seed calls q sites set)) a (worked never set is.0 refl) e) told;
     }
